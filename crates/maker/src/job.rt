@@ -253,7 +253,14 @@ impl Job {
     }
 
     // Offers a pair that is not settled at a key; notes the key and the leg where it enters or is lowered.
-    fn offer<Q: Queue>(&mut self, queue: &mut Q, u: usize, w: usize, key: u32, last: Option<usize>) {
+    fn offer<Q: Queue>(
+        &mut self,
+        queue: &mut Q,
+        u: usize,
+        w: usize,
+        key: u32,
+        last: Option<usize>,
+    ) {
         let item = self.item(u, w);
         if item >= self.pairs.len() {
             return;
@@ -280,7 +287,10 @@ impl Job {
             capacity: queue.capacity(),
             band: queue.band(),
         };
-        if opening != self.opening || queue.floor() != self.floor || queue.waiting() != self.waiting {
+        if opening != self.opening
+            || queue.floor() != self.floor
+            || queue.waiting() != self.waiting
+        {
             return false;
         }
         if u64::from(self.floor) + u64::from(reach) > u64::from(VALUE_LIMIT) {
@@ -303,7 +313,12 @@ impl Job {
     }
 
     // Draws and spreads up to `budget` pairs, nearest first, and tells how many were settled.
-    pub fn work<Q: Queue, R: Rule>(&mut self, queue: &mut Q, rule: &R, budget: u32) -> Result<u32, Refusal> {
+    pub fn work<Q: Queue, R: Rule>(
+        &mut self,
+        queue: &mut Q,
+        rule: &R,
+        budget: u32,
+    ) -> Result<u32, Refusal> {
         if self.phase != Phase::Resting {
             return Err(Refusal::Phase);
         }

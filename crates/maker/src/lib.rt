@@ -1,10 +1,13 @@
 // The table maker: a sheet to its table, by one waiting queue of pairs that all starting points share.
 //
 // It takes a sheet into a job, opens the job on a wheel over a ring, works it until nothing waits, and lists its table.
-mod job;
 mod intake;
+mod job;
 
+use crate::intake::SheetFaultDebug;
 use chains::Chain;
+pub use intake::Layer;
+pub use intake::SheetFault;
 use intake::take_sheet;
 use job::Job;
 use queue::Queue;
@@ -18,12 +21,9 @@ use std::alloc::Refused;
 use wheel::Wheel;
 use wheel::WheelQueue;
 
-pub use intake::Layer;
-pub use intake::SheetFault;
-use crate::intake::SheetFaultDebug;
-
 // Slots of the ring, which are as many as a compartment of the wheel is wide.
 const SLOTS: usize = 64;
+
 const WIDTH: u32 = 64;
 // Cells of the ring, one for each pair of the largest hall.
 const CELLS: usize = 1_600;

@@ -88,9 +88,18 @@ impl Field<'_> {
 // A line of the sheet.
 #[derive(Clone, Copy, Debug)]
 pub enum Record<'a> {
-    Start { points: Field<'a>, bound: Field<'a> },
-    Leg { from: Field<'a>, to: Field<'a>, cost: Field<'a> },
-    End { count: Field<'a> },
+    Start {
+        points: Field<'a>,
+        bound: Field<'a>,
+    },
+    Leg {
+        from: Field<'a>,
+        to: Field<'a>,
+        cost: Field<'a>,
+    },
+    End {
+        count: Field<'a>,
+    },
 }
 
 // Which line a mark begins.
