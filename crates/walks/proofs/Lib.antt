@@ -1,0 +1,11 @@
+pub mod Places
+pub mod Routes
+pub mod Drawing
+pub mod Trying
+pub mod Reaching
+pub mod Waiting
+pub mod Measures
+pub mod Legs
+pub mod Links
+pub mod Tallies
+pub mod Tables
