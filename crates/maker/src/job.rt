@@ -2,6 +2,7 @@
 //
 // Pair (u, v) is item u * n + v of the queue. Drawing settles the pair of least key; spreading it tries each leg that
 // leaves its far end, the latest laid first.
+ghost use Rattle.std.specs.declared.option.Option.the-variants.{None};
 use chains::Chain;
 use chains::Linked;
 use figures::COST_LIMIT;
@@ -82,6 +83,12 @@ struct Leg {
 }
 
 impl Linked for Leg as LegLinked {
+    ghost link = { λ l. l .next };
+
+    ghost back = { λ _. None };
+
+    ghost bare = { λ l. record { from = l .from; to = l .to; cost = l .cost; next = None } };
+
     fn next(&self) -> Option<usize> {
         self.next
     }

@@ -66,7 +66,9 @@ pub fn listing_of(heap: Global, sheet: &[u8]) -> Result<Vec<u8>, Failure> {
     let mut slots = [Chain::new(); SLOTS];
     let mut cells = [ring::Cell::new(); CELLS];
     let ring = Ring::new(&mut slots, &mut cells);
-    let mut queue = Wheel::new(heap, WIDTH, ring)?;
+    let Ok(mut queue) = Wheel::new(heap, WIDTH, ring) else {
+        return Err(Failure::Memory);
+    };
     finish(&mut job, &mut queue)?;
     listed(heap, &job)
 }

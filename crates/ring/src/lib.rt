@@ -3,21 +3,32 @@
 // Key k lies in slot k mod S, where S is the number of slots, and the band is S - 1, so a slot holds one key only.
 // Slots and cells are lent at making. Offering and taking take constant time; the least item is looked for from
 // the floor on.
+ghost use mathlib.Core.Path.{_≡_};
+ghost use Prim.Native.Nat.{ℕ, _%_, _<_, _≤_};
+ghost use lib.ListN.{length, getD};
+ghost use Rattle.std.specs.declared.option.Option.the-variants.{Some, None};
+ghost use Rattle.std.specs.declared.result.Result.the-variants.{Ok};
+ghost use Rattle.std.specs.Orderings.{When};
+ghost use Rattle.std.specs.Results.{isOk};
+ghost use Rattle.chains.specs.Slots.{entered, left};
+ghost use Rattle.queue.specs.Meaning.{Allowed, Least, Lowest, Offers, cleared, key-of, taken};
+ghost use Rattle.ring.specs.Standing.{fits, heads, keys, slot-of, fresh, Blank, scanned};
+ghost use Rattle.ring.specs.Sound.{slots-in, cells-in, rows-in, means, Sound, names};
+
+mod queued;
+
 use chains::Chain;
+use chains::DoublyLinked;
 use chains::Linked;
-use chains::Linked2;
 use figures::CELL_LIMIT;
 use figures::OutOfRange;
 use figures::SLOT_LIMIT;
-use figures::VALUE_LIMIT;
 use queue::Entry;
-use queue::OfferRefusal;
 use queue::Offered;
-use queue::Queue;
-use queue::TakeRefusal;
+pub use queued::RingQueue;
 
 // What the ring knows of one item.
-#[derive(Clone, Copy, PartialEq, Eq, Debug)]
+#[derive(Clone, Copy, Debug)]
 pub struct Cell {
     key: Option<u32>,
     next: Option<usize>,
@@ -25,7 +36,10 @@ pub struct Cell {
 }
 
 impl Cell {
-    pub const fn new() -> Cell {
+    // The cell of an item that does not wait.
+    pub const fn new() -> Cell
+        ensures { λ r. ⌜ r ≡ record { key = None; next = None; prev = None } ⌝ }
+    {
         Cell {
             key: None,
             next: None,
@@ -34,7 +48,13 @@ impl Cell {
     }
 }
 
-pub impl Linked for Cell as CellLinked {
+impl Linked for Cell as CellLinked {
+    ghost link = { λ c. c .next };
+
+    ghost back = { λ c. c .prev };
+
+    ghost bare = { λ c. record { key = c .key; next = None; prev = None } };
+
     fn next(&self) -> Option<usize> {
         self.next
     }
@@ -44,7 +64,7 @@ pub impl Linked for Cell as CellLinked {
     }
 }
 
-pub impl Linked2 for Cell as CellLinked2 {
+impl DoublyLinked for Cell as CellDoublyLinked {
     fn prev(&self) -> Option<usize> {
         self.prev
     }
@@ -63,16 +83,49 @@ pub struct Ring<'a> {
 }
 
 // Whether a ring of so many slots and cells can be made.
-pub fn trial(slots: usize, cells: usize) -> Result<(), OutOfRange> {
+pub fn trial(slots: usize, cells: usize) -> Result<(), OutOfRange>
+    ensures { λ r. ⌜ isOk r ≡ fits slots cells ⌝ }
+{
     if slots < 1 || slots > SLOT_LIMIT || cells < 1 || cells > CELL_LIMIT {
         return Err(OutOfRange);
     }
     Ok(())
 }
 
+// Empties every slot.
+fn blank_slots(slots: &mut [Chain])
+    ensures { λ _. ⌜ ((k : ℕ) → getD (heads (now (slots .exit))) k None ≡ None) ⌝ }
+{
+    for slot in slots.iter_mut() {
+        *slot = Chain::new();
+    }
+}
+
+// Lets no item wait.
+fn blank_cells(cells: &mut [Cell])
+    ensures { λ _. ⌜ ((k : ℕ) → getD (keys (now (cells .exit))) k None ≡ None) ⌝ }
+{
+    for cell in cells.iter_mut() {
+        *cell = Cell::new();
+    }
+}
+
 impl<'a> Ring<'a> {
     // A ring in the memory lent, with nothing waiting. Outside its figures it has capacity and band 0.
-    pub fn new(slots: &'a mut [Chain], cells: &'a mut [Cell]) -> Ring<'a> {
+    pub fn new(slots: &'a mut [Chain], cells: &'a mut [Cell]) -> Ring<'a>
+        ensures made { λ r. ⌜ means r ≡ fresh (length (now (slots .entry))) (length (now (cells .entry))) ⌝ }
+        ensures keeps { λ r. ⌜ Sound r ⌝ }
+    {
+        blank_slots(slots);
+        blank_cells(cells);
+        Ring::over(slots, cells)
+    }
+
+    // A ring over blank memory; over none of it outside the figures.
+    fn over(slots: &'a mut [Chain], cells: &'a mut [Cell]) -> Ring<'a>
+        ensures made { λ r. ⌜ (Blank (now (slots .entry)) (now (cells .entry)) → means r ≡ fresh (length (now (slots .entry))) (length (now (cells .entry)))) ⌝ }
+        ensures keeps { λ r. ⌜ (Blank (now (slots .entry)) (now (cells .entry)) → Sound r) ⌝ }
+    {
         if trial(slots.len(), cells.len()).is_err() {
             return Ring {
                 slots: &mut slots[0..0],
@@ -80,12 +133,6 @@ impl<'a> Ring<'a> {
                 floor: 0,
                 waiting: 0,
             };
-        }
-        for slot in slots.iter_mut() {
-            *slot = Chain::new();
-        }
-        for cell in cells.iter_mut() {
-            *cell = Cell::new();
         }
         Ring {
             slots,
@@ -98,7 +145,9 @@ impl<'a> Ring<'a> {
 
 impl Ring<'_> {
     // The slot of a key. There is at least one slot where there is a cell.
-    fn slot(&self, key: u32) -> usize {
+    fn slot(&self, key: u32) -> usize
+        ensures { λ r. ⌜ (0 < length (slots-in (now (self .entry))) → r ≡ slot-of (length (slots-in (now (self .entry)))) key) ⌝ }
+    {
         let slots = self.slots.len();
         if slots == 0 {
             return 0;
@@ -106,133 +155,135 @@ impl Ring<'_> {
         key as usize % slots
     }
 
-    // Takes the item out of the chain of its key.
-    fn unlink(&mut self, item: usize, key: u32) {
-        let slot = self.slot(key);
-        if slot < self.slots.len() {
-            let chain = self.slots[slot];
-            let chain = chain.removed(self.cells, item);
-            self.slots[slot] = chain;
+    // How many items there are.
+    fn size(&self) -> usize
+        ensures { λ r. ⌜ r ≡ length (keys (cells-in (now (self .entry)))) ⌝ }
+    {
+        self.cells.len()
+    }
+
+    // The item's key if it waits.
+    fn key_at(&self, item: usize) -> Option<u32>
+        ensures { λ r. ⌜ r ≡ getD (keys (cells-in (now (self .entry)))) item None ⌝ }
+    {
+        if item < self.cells.len() {
+            self.cells[item].key
+        } else {
+            None
         }
     }
 
-    // Puts the item in front of the chain of a key.
-    fn link(&mut self, item: usize, key: u32) {
+    // Puts the item, which does not wait, in front of the slot of a key.
+    fn link(&mut self, item: usize, key: u32)
+        ensures after { λ _. ⌜ (item < length (cells-in (now (self .entry))) → 0 < length (slots-in (now (self .entry))) → rows-in (now (self .exit)) ≡ entered (slot-of (length (slots-in (now (self .entry))))) (rows-in (now (self .entry))) item key) ⌝ }
+        ensures same { λ _. ⌜ (now (self .exit) .floor ≡ now (self .entry) .floor) × (now (self .exit) .waiting ≡ now (self .entry) .waiting) ⌝ }
+    {
         let slot = self.slot(key);
         if slot < self.slots.len() && item < self.cells.len() {
-            let chain = self.slots[slot];
-            let chain = chain.pushed2(self.cells, item);
+            let chain = self.slots[slot].inserted(self.cells, item);
             self.slots[slot] = chain;
             self.cells[item].key = Some(key);
         }
     }
-}
 
-pub impl Queue for Ring<'_> as RingQueue {
-    fn clear(&mut self) {
+    // Takes the item, which waits at a key, out of the slot of the key.
+    fn unlink(&mut self, item: usize, key: u32)
+        ensures after { λ _. ⌜ (item < length (cells-in (now (self .entry))) → 0 < length (slots-in (now (self .entry))) → rows-in (now (self .exit)) ≡ left (slot-of (length (slots-in (now (self .entry))))) (rows-in (now (self .entry))) item key) ⌝ }
+        ensures same { λ _. ⌜ (now (self .exit) .floor ≡ now (self .entry) .floor) × (now (self .exit) .waiting ≡ now (self .entry) .waiting) ⌝ }
+    {
+        let slot = self.slot(key);
+        if slot < self.slots.len() && item < self.cells.len() {
+            let chain = self.slots[slot].removed(self.cells, item);
+            self.slots[slot] = chain;
+            self.cells[item].key = None;
+        }
+    }
+
+    // The first item of the first slot that holds something, from the floor's slot on.
+    fn nearest(&self) -> Option<usize>
+        ensures { λ r. ⌜ r ≡ scanned (length (slots-in (now (self .entry)))) (heads (slots-in (now (self .entry)))) (now (self .entry) .floor) ⌝ }
+    {
+        let slots = self.slots.len();
+        let mut slot = self.slot(self.floor);
+        for _passed in 0..slots {
+            if let Some(item) = self.slots[slot].first() {
+                return Some(item);
+            }
+            slot = if slot + 1 < slots { slot + 1 } else { 0 };
+        }
+        None
+    }
+
+    // An item of least key, if any waits.
+    fn pick(&self) -> Option<Entry>
+        ensures value { λ r. ⌜ (Sound (now (self .entry)) → r ≡ names (now (self .entry))) ⌝ }
+        ensures cases { λ r. ⌜ (Sound (now (self .entry)) → Least (means (now (self .entry))) r) ⌝ }
+    {
+        if self.waiting == 0 {
+            return None;
+        }
+        let Some(item) = self.nearest() else {
+            return None;
+        };
+        let Some(key) = self.key_at(item) else {
+            return None;
+        };
+        Some(Entry { item, key })
+    }
+
+    // Whether an item waits at a lower key.
+    fn waits_below(&self, key: u32) -> bool
+        ensures { λ r. ⌜ (Sound (now (self .entry)) → When r ((j : ℕ) × (l : ℕ) × (key-of (means (now (self .entry))) j ≡ Some l) × (l < key)) (Lowest (means (now (self .entry))) key)) ⌝ }
+    {
+        match self.pick() {
+            Some(least) => least.key < key,
+            None => false,
+        }
+    }
+
+    // Takes every item out, and makes the floor 0. At once where nothing waits.
+    fn wipe(&mut self)
+        ensures after { λ _. ⌜ (Sound (now (self .entry)) → means (now (self .exit)) ≡ cleared (means (now (self .entry)))) ⌝ }
+        ensures keeps { λ _. ⌜ (Sound (now (self .entry)) → Sound (now (self .exit))) ⌝ }
+    {
         self.floor = 0;
         if self.waiting == 0 {
             return;
         }
         self.waiting = 0;
-        for slot in self.slots.iter_mut() {
-            *slot = Chain::new();
-        }
-        for cell in self.cells.iter_mut() {
-            *cell = Cell::new();
-        }
+        blank_slots(self.slots);
+        blank_cells(self.cells);
     }
 
-    fn waiting(&self) -> usize {
-        self.waiting
-    }
-
-    fn floor(&self) -> u32 {
-        self.floor
-    }
-
-    fn capacity(&self) -> usize {
-        self.cells.len()
-    }
-
-    fn band(&self) -> u32 {
-        let slots = self.slots.len();
-        if slots == 0 || slots > SLOT_LIMIT {
-            return 0;
-        }
-        slots as u32 - 1
-    }
-
-    fn key(&self, item: usize) -> Option<u32> {
-        if item >= self.cells.len() {
-            return None;
-        }
-        self.cells[item].key
-    }
-
-    fn least(&self) -> Option<Entry> {
-        if self.waiting == 0 {
-            return None;
-        }
-        let slots = self.slots.len();
-        let mut slot = self.slot(self.floor);
-        for _ in 0..slots {
-            if slot >= slots {
-                slot = 0;
-            }
-            if let Some(item) = self.slots[slot].first() {
-                let Some(key) = self.key(item) else {
-                    return None;
-                };
-                return Some(Entry { item, key });
-            }
-            slot += 1;
-        }
-        None
-    }
-
-    fn offer(&mut self, item: usize, key: u32) -> Result<Offered, OfferRefusal> {
-        if item >= self.cells.len() {
-            return Err(OfferRefusal::NoSuchItem);
-        }
-        if key < self.floor {
-            return Err(OfferRefusal::BelowFloor);
-        }
-        if key - self.floor > self.band() || key > VALUE_LIMIT {
-            return Err(OfferRefusal::BeyondBand);
-        }
-        match self.cells[item].key {
+    // Enters the item at a key that is allowed, lowers it or keeps it.
+    fn admit(&mut self, item: usize, key: u32) -> Offered
+        ensures cases { λ r. ⌜ (Sound (now (self .entry)) → Allowed (means (now (self .entry))) item key → Offers (means (now (self .entry))) item key (Ok r) (means (now (self .exit)))) ⌝ }
+        ensures keeps { λ _. ⌜ (Sound (now (self .entry)) → Allowed (means (now (self .entry))) item key → Sound (now (self .exit))) ⌝ }
+    {
+        match self.key_at(item) {
             None => {
                 self.link(item, key);
                 self.waiting = self.waiting.wrapping_add(1);
-                Ok(Offered::Entered)
+                Offered::Entered
             }
             Some(old) => {
                 if key >= old {
-                    return Ok(Offered::Kept);
+                    return Offered::Kept;
                 }
                 self.unlink(item, old);
                 self.link(item, key);
-                Ok(Offered::Lowered)
+                Offered::Lowered
             }
         }
     }
 
-    fn take(&mut self, item: usize) -> Result<(), TakeRefusal> {
-        let Some(key) = self.key(item) else {
-            return Err(TakeRefusal::NotWaiting);
-        };
-        if let Some(least) = self.least() {
-            if least.key < key {
-                return Err(TakeRefusal::NotLeast);
-            }
-        }
+    // Takes out the item, which waits at a lowest key.
+    fn withdraw(&mut self, item: usize, key: u32)
+        ensures after { λ _. ⌜ (Sound (now (self .entry)) → key-of (means (now (self .entry))) item ≡ Some key → Lowest (means (now (self .entry))) key → means (now (self .exit)) ≡ taken (means (now (self .entry))) item key) ⌝ }
+        ensures keeps { λ _. ⌜ (Sound (now (self .entry)) → key-of (means (now (self .entry))) item ≡ Some key → Lowest (means (now (self .entry))) key → Sound (now (self .exit))) ⌝ }
+    {
         self.unlink(item, key);
-        if item < self.cells.len() {
-            self.cells[item].key = None;
-        }
         self.waiting = self.waiting.wrapping_sub(1);
         self.floor = key;
-        Ok(())
     }
 }

@@ -1,0 +1,7 @@
+pub mod Trees
+pub mod Rows
+pub mod Links
+pub mod Sifts
+pub mod Edits
+pub mod Meanings
+pub mod Sounds

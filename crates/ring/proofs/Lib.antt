@@ -1,0 +1,5 @@
+pub mod Turns
+pub mod Scans
+pub mod Stands
+pub mod Writes
+pub mod Cases

@@ -1,0 +1,5 @@
+pub mod Joined
+pub mod Later
+pub mod Rims
+pub mod Wheels
+pub mod Banded
