@@ -1,5 +1,5 @@
 // Damaged sheets, each with the one line that halltable answers for it, held to this program's `stdout`.
-use maker::Failure;
+use maker::Reply;
 use std::alloc::Global;
 use std::error::AnyError;
 
@@ -51,20 +51,16 @@ const SHEETS: [&[u8]; 40] = [
 
 // What halltable answers in one line.
 fn tell(rt: &LibcRuntime, heap: Global, sheet: &[u8]) -> Result<(), AnyError> {
-    match maker::listing_of(heap, sheet) {
-        Ok(listing) => {
+    match maker::answer(heap, sheet)? {
+        Reply::Listing(listing) => {
             let bytes = listing.len();
             println!(rt, "a listing of {bytes} bytes")?;
             Ok(())
         }
-        Err(Failure::Sheet(fault)) => {
-            let number = fault.number;
-            let line = fault.line;
-            let layer = fault.layer.letter();
-            println!(rt, "ER {number} {line} {layer}")?;
+        Reply::Fault(line) => {
+            rt.stdout().write_all(line.as_bytes())?;
             Ok(())
         }
-        Err(_) => Err("no answer".into()),
     }
 }
 

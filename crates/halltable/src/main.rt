@@ -2,7 +2,7 @@
 //
 // A refused sheet ends the program with status 1, and so does input that cannot be read, which is told on standard
 // error. Nothing is written before the answer is known.
-use maker::Failure;
+use maker::Reply;
 use std::error::AnyError;
 use std::io::Read;
 
@@ -14,20 +14,15 @@ fn run(rt: &LibcRuntime) -> Result<bool, AnyError> {
     let heap = rt.alloc();
     let mut sheet = Vec::new(heap);
     rt.stdin().take(READ_LIMIT).read_to_end(&mut sheet)?;
-    match maker::listing_of(heap, sheet.as_slice()) {
-        Ok(listing) => {
+    match maker::answer(heap, sheet.as_slice())? {
+        Reply::Listing(listing) => {
             rt.stdout().write_all(listing.as_slice())?;
             Ok(true)
         }
-        Err(Failure::Sheet(fault)) => {
-            let number = fault.number;
-            let line = fault.line;
-            let layer = fault.layer.letter();
-            println!(rt, "ER {number} {line} {layer}")?;
+        Reply::Fault(line) => {
+            rt.stdout().write_all(line.as_bytes())?;
             Ok(false)
         }
-        Err(Failure::Memory) => Err("no memory".into()),
-        Err(Failure::Unfit) => Err("the queue does not suit the hall".into()),
     }
 }
 

@@ -1,23 +1,31 @@
-// The table maker: a sheet to its table, by one waiting queue of pairs that all starting points share.
+// The table maker: from the bytes of a sheet to the listing of its hall's least walk values.
 //
-// It takes a sheet into a job, opens the job on a wheel over a ring, works it until nothing waits, and lists its table.
-mod intake;
-mod job;
-
-use crate::intake::SheetFaultDebug;
+// A job takes the sheet, is opened on a wheel over a ring by running time without dwell, is worked until nothing waits,
+// and its table is listed. A sheet that does not obey the rules of a sheet is answered by a line that tells the fault.
+ghost use mathlib.Core.Path.{_≡_};
+ghost use denote.Ref.{now as pointee};
+ghost use Rattle.std.specs.Of.Vec.{vec-items};
+ghost use Rattle.std.specs.Of.String.{string-bytes};
+ghost use Rattle.std.specs.Vec.{made};
+ghost use Rattle.job.specs.View.{state-of};
+ghost use Rattle.listing.specs.Listing.{listing};
+ghost use Rattle.maker.specs.Replies.{Replies, fault-line};
+ghost use Rattle.maker.specs.Tables.{by-time, Tabled, cells, Ready, Suits};
 use chains::Chain;
-pub use intake::Layer;
-pub use intake::SheetFault;
+use intake::SheetFault;
 use intake::take_sheet;
 use job::Job;
+use job::LayingPermit;
+use listing::Table;
+use model::BUDGET_LIMIT;
 use queue::Queue;
+use ring::Cell;
 use ring::Ring;
 use ring::RingQueue;
 use rules::RunningTime;
 use rules::RunningTimeRule;
 use std::alloc::AllocError;
 use std::alloc::Global;
-use std::alloc::Refused;
 use wheel::Wheel;
 use wheel::WheelQueue;
 
@@ -27,74 +35,112 @@ const SLOTS: usize = 64;
 const WIDTH: u32 = 64;
 // Cells of the ring, one for each pair of the largest hall.
 const CELLS: usize = 1_600;
-// More units than there are pairs.
-const BUDGET: u32 = 65_535;
 
-// Why no listing was made.
-#[derive(Debug, Drop)]
-pub enum Failure {
-    // The sheet does not obey the rules of a sheet.
-    Sheet(SheetFault),
-    // There was no memory.
-    Memory,
-    // The queue or the rule does not suit the hall, or the job was not finished.
-    Unfit,
+// What is answered to a sheet.
+#[derive(Drop)]
+pub enum Reply {
+    // The listing of its hall.
+    Listing(Vec<u8>),
+    // The line that tells what is wrong with it.
+    Fault(String),
 }
 
-pub impl From<SheetFault> for Failure as FailureFromSheetFault {
-    fn from(fault: SheetFault) -> Failure {
-        Failure::Sheet(fault)
+// The table of a job, to be listed.
+#[derive(Drop)]
+struct Values<'a> {
+    job: &'a Job,
+}
+
+impl Table for Values<'_> as ValuesTable {
+    ghost size = { λ t. pointee (t .job) .points };
+
+    ghost cell = { λ t. cells (state-of (pointee (t .job))) };
+
+    ghost few = { λ t. pointee (t .job) .sized .0 };
+
+    fn points(&self) -> usize {
+        self.job.points()
+    }
+
+    fn value(&self, from: usize, to: usize) -> Option<u32> {
+        self.job.value(from, to)
     }
 }
 
-pub impl From<AllocError> for Failure as FailureFromAlloc {
-    fn from(_e: AllocError) -> Failure {
-        Failure::Memory
-    }
-}
-
-pub impl<T: Drop> From<Refused<T>> for Failure as FailureFromRefused {
-    fn from(_e: Refused<T>) -> Failure {
-        Failure::Memory
-    }
-}
-
-// The listing of the hall that a sheet describes.
-pub fn listing_of(heap: Global, sheet: &[u8]) -> Result<Vec<u8>, Failure> {
-    let mut job = Job::new(heap)?;
-    take_sheet(&mut job, sheet)?;
-    let mut slots = [Chain::new(); SLOTS];
-    let mut cells = [ring::Cell::new(); CELLS];
-    let ring = Ring::new(&mut slots, &mut cells);
-    let Ok(mut queue) = Wheel::new(heap, WIDTH, ring) else {
-        return Err(Failure::Memory);
-    };
-    finish(&mut job, &mut queue)?;
-    listed(heap, &job)
-}
-
-// Opens a job, by running time with no dwell, and works it to its end.
-fn finish<Q: Queue>(job: &mut Job, queue: &mut Q) -> Result<(), Failure> {
+// Opens a job, by running time without dwell, and works it until nothing waits: there are more units than pairs.
+fn finish<Q: Queue>(job: &mut Job, permit: LayingPermit, queue: &mut Q)
+    requires sound { ⌜ Q·Queue .sound (now queue) ⌝ }
+    requires suits { ⌜ Suits (Q·Queue .meaning (now queue)) ⌝ }
+    requires ready { ⌜ Ready (state-of (now job)) ⌝ }
+    ensures value { λ _. ⌜ Tabled by-time (state-of (now (job .entry)) .hall) (cells (state-of (now (job .exit)))) ⌝ }
+    ensures same { λ _. ⌜ state-of (now (job .exit)) .hall ≡ state-of (now (job .entry)) .hall ⌝ }
+{
     let Ok(rule) = RunningTime::new(0) else {
-        return Err(Failure::Unfit);
+        return unreachable();
     };
-    if job.open(queue, &rule).is_err() {
-        return Err(Failure::Unfit);
-    }
-    match job.work(queue, &rule, BUDGET) {
-        Ok(_) => Ok(()),
-        Err(_) => Err(Failure::Unfit),
+    let permit = match job.open(permit, queue, &rule) {
+        Ok(permit) => permit,
+        Err(_) => return unreachable(),
+    };
+    // The entry that the queue names is one of least key, so that the job is fit to work.
+    let _ = queue.least();
+    match job.work(permit, queue, &rule, BUDGET_LIMIT) {
+        Ok(_) => {}
+        Err(_) => unreachable(),
     }
 }
 
-// The listing of a finished job.
-fn listed(heap: Global, job: &Job) -> Result<Vec<u8>, Failure> {
-    let table = job.table(heap)?;
-    let points = job.points();
-    let len = listing::length(points, table.as_slice());
-    let mut bytes = vec![in heap; 0u8; len]?;
-    match listing::write(points, table.as_slice(), bytes.as_mut_slice()) {
+// Makes the table of a job's hall.
+fn make_table(heap: Global, job: &mut Job, permit: LayingPermit) -> Result<(), AllocError>
+    requires { ⌜ Ready (state-of (now job)) ⌝ }
+    ensures value { λ r. ⌜ made r (λ _. Tabled by-time (state-of (now (job .entry)) .hall) (cells (state-of (now (job .exit))))) ⌝ }
+    ensures same { λ r. ⌜ made r (λ _. state-of (now (job .exit)) .hall ≡ state-of (now (job .entry)) .hall) ⌝ }
+{
+    let mut slots = [Chain::new(); SLOTS];
+    let mut cells = [Cell::new(); CELLS];
+    let ring = Ring::new(&mut slots, &mut cells);
+    match Wheel::new(heap, WIDTH, ring) {
+        Ok(mut queue) => {
+            finish(job, permit, &mut queue);
+            Ok(())
+        }
+        Err(_) => Err(AllocError),
+    }
+}
+
+// The listing of a job's table.
+fn listed(heap: Global, job: &Job) -> Result<Vec<u8>, AllocError>
+    ensures made { λ r. ⌜ made r (λ v. vec-items v ≡ listing (state-of (now (job .entry)) .hall .points) (cells (state-of (now (job .entry))))) ⌝ }
+{
+    let values = Values { job };
+    let mut bytes = vec![in heap; 0u8; listing::length(&values)]?;
+    match listing::write(&values, bytes.as_mut_slice()) {
         Ok(_) => Ok(bytes),
-        Err(_) => Err(Failure::Unfit),
+        Err(_) => unreachable(),
+    }
+}
+
+// The line that tells a fault.
+fn fault_text(heap: Global, fault: SheetFault) -> Result<String, AllocError>
+    ensures made { λ r. ⌜ made r (λ text. string-bytes text ≡ fault-line fault) ⌝ }
+{
+    let number = fault.number;
+    let line = fault.line;
+    let letter = fault.layer.letter();
+    format!(heap, "ER {number} {line} {letter}\n")
+}
+
+// Answers any bytes: the listing of the least walk values of the hall of which they are the sheet, or the fault that is
+// due. Refused only for want of memory.
+pub fn answer(heap: Global, sheet: &[u8]) -> Result<Reply, AllocError>
+    ensures made { λ r. ⌜ made r (λ reply. Replies (now (sheet .entry)) reply) ⌝ }
+{
+    let mut job = Job::new(heap)?;
+    match take_sheet(&mut job, sheet) {
+        Ok(permit) => {
+            make_table(heap, &mut job, permit)?;
+            Ok(Reply::Listing(listed(heap, &job)?))
+        }
+        Err(fault) => Ok(Reply::Fault(fault_text(heap, fault)?)),
     }
 }

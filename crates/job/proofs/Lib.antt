@@ -1,0 +1,9 @@
+pub mod Counts
+pub mod Dues
+pub mod Following
+pub mod Settling
+pub mod Spreading
+pub mod Starting
+pub mod Threads
+pub mod Trying
+pub mod Units

@@ -1,0 +1,5 @@
+mod Buffer
+mod Decimal
+mod Front
+mod Lines
+mod Rows
