@@ -3,5 +3,4 @@ pub mod Rows
 pub mod Links
 pub mod Sifts
 pub mod Edits
-pub mod Meanings
 pub mod Sounds

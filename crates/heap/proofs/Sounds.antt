@@ -19,7 +19,7 @@ use Rattle.heap.specs.Order.{Linked, Heaped}
 use Rattle.heap.specs.Contents.{contents, band-over, bare, Agrees, Undercuts}
 use Rattle.heap.proofs.Rows.{keys-read, item-inside}
 use Rattle.heap.proofs.Trees.{root-least}
-use Rattle.heap.proofs.Meanings.{held-enter, held-lower, held-take, held-room, held-replicate, none-held, never, none-in-replicate, banded-put, banded-taken, banded-none}
+use Rattle.queue.proofs.Meanings.{held-enter, held-lower, held-take, held-room, held-replicate, none-held, never, none-in-replicate, banded-put, banded-taken, banded-none}
 
 -- two rows with one list of keys mean the same
 contents-is : (cells : List Cell) (ks : List (Option ℕ)) (f : ℕ) → keys cells ≡ ks
