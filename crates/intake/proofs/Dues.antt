@@ -1,13 +1,13 @@
--- What it tells that no refusal is due to a making or a laying.
+-- That no refusal is due: how it is shown, and what it tells of a making or a laying.
 -- Assumes nothing.
-use mathlib.Core.Path.{_≡_}
-use mathlib.Core.Bool.{Bool, true, not, _&&_}
+use mathlib.Core.Path.{_≡_, refl}
+use mathlib.Core.Bool.{Bool, true, false, not, _&&_}
 use Prim.Native.Nat.{ℕ, _<_, _≤_}
 use lib.Dec.{ltb, leb}
 use lib.ListN.{length}
 use Rattle.std.specs.declared.option.Option.{Option}
 use Rattle.std.specs.declared.option.Option.the-variants.{None}
-use Rattle.std.proofs.shelf.Tests.{and-parts}
+use Rattle.std.proofs.shelf.Tests.{and-parts, both-ways}
 use borrow.Author.Tests.{ltb-true, ltb-false, leb-true, leb-false}
 use Rattle.figures.specs.Limits.{cost-limit}
 use Rattle.walks.specs.Hall.{Hall}
@@ -18,6 +18,10 @@ use Rattle.model.specs.Refusals.{due}
 use Rattle.model.specs.State.{JobState, closed, is-laying}
 use Rattle.model.specs.Calls.{point-limit, leg-limit, between, make-due, lay-due}
 use Rattle.runs.proofs.Answered.{not-due, holds-true}
+
+pub due-clear : (b : Bool) (why : Refusal) (later : Option Refusal) → b ≡ false → later ≡ None → due b why later ≡ None
+due-clear false why later e f = f
+due-clear true why later e f = absurd (both-ways true e refl)
 
 within : (low n high : ℕ) → between low n high ≡ true → (low ≤ n) × (n ≤ high)
 within low n high e =

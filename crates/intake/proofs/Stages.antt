@@ -3,8 +3,7 @@
 use mathlib.Core.Path.{_≡_, refl, sym, ap, subst, _∙_}
 use mathlib.Core.Bool.{Bool, true, false}
 use mathlib.Core.List.{List, [], _∷_, _++_, append-assoc}
-use Prim.Native.Nat.{ℕ, suc, _+_, _%_, _^_, _<_, _≤_}
-use native.Mathlib.Nat.{mod-eq-of-lt}
+use Prim.Native.Nat.{ℕ, suc, _+_, _<_, _≤_}
 use native.Mathlib.Omega.{arith}
 use lib.ListN.{length}
 use Rattle.std.specs.declared.option.Option.the-variants.{None}
@@ -21,6 +20,7 @@ use Rattle.sheet.specs.Form.{written}
 use Rattle.sheet.specs.Reading.{Standing, opening, LineRead, more}
 use Rattle.sheet.specs.declared.Kind.{Kind}
 use Rattle.sheet.specs.declared.Kind.the-variants.{Start, Leg, End}
+use Rattle.sheet.proofs.Sheets.{more-small}
 use Rattle.intake.specs.Sheets.{start-line, leg-line, end-line, hall-sheet, Inside, Valid, Obeys, nth, line-due, after-line, Taken, none, one-more, sheet-limit}
 use Rattle.intake.proofs.Dues.{makeable, layable}
 
@@ -36,9 +36,6 @@ three-are (a ∷ []) e = absurd (omega arith)
 three-are (a ∷ b ∷ []) e = absurd (omega arith)
 three-are (a ∷ b ∷ c ∷ []) e = refl
 three-are (a ∷ b ∷ c ∷ d ∷ ks) e = absurd (omega arith)
-
-more-small : (n : ℕ) → n < 100000 → more n ≡ n + 1
-more-small n h = let l : n + 1 < 2 ^ 32 = omega arith in mod-eq-of-lt l
 
 -- among the legs
 record Among (bytes : List ℕ) (n : ℕ) (r : Standing) (s : JobState) (h : Hall) : Type 0 where

@@ -10,6 +10,7 @@
 --                 stands then, and the job then
 --   Due           the fault due: the first line at fault by its form, or, being whole, by its numbers
 --   Takes         a sheet's answer and the job after it: exactly the sheet's hall, or a blank job
+--   Exactly       what is answered to the sheet of a valid hall: never a fault, and the job has that hall
 --   Continues     a taken sheet is a making and a laying for each leg; a refused one leaves a blank job
 use mathlib.Core.Path.{_≡_}
 use mathlib.Core.List.{List, [], _∷_, _++_}
@@ -111,6 +112,11 @@ pub data Due (bytes : List ℕ) : SheetFault → Type 0 where
 abbrev pub Takes : {T : Type 0} → List ℕ → Result T SheetFault → JobState → Type 0
 Takes bytes (Ok p) t = (h : Hall) × Obeys bytes h × (t ≡ closed Laying h)
 Takes bytes (Err f) t = Due bytes f × (t ≡ blank)
+
+-- a sheet that obeys a hall is taken, and the job has that hall
+abbrev pub Exactly : {T : Type 0} → Hall → Result T SheetFault → JobState → Type 0
+Exactly h (Ok p) t = t ≡ closed Laying h
+Exactly h (Err f) t = ⊥
 
 -- a making and so many layings, after some calls
 abbrev pub layings : ℕ → List Call → List Call

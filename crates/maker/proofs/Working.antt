@@ -33,16 +33,13 @@ use Rattle.runs.proofs.Answered.{accepted}
 use Rattle.runs.proofs.Runs.{kept}
 use Rattle.runs.proofs.Stands.{law}
 use Rattle.intake.specs.Sheets.{Valid}
+use Rattle.intake.proofs.Dues.{due-clear}
 use Rattle.maker.specs.Tables.{by-time, Tabled, cells, Ready, Suits}
 
 counted-few : {P : ℕ → Type 0} {m c : ℕ} → Counted P m c → c ≤ m
 counted-few none = omega arith
 counted-few (has p k) = let r = counted-few k in omega arith
 counted-few (lacks p k) = let r = counted-few k in omega arith
-
-due-clear : (b : Bool) (why : Refusal) (later : Option Refusal) → b ≡ false → later ≡ None → due b why later ≡ None
-due-clear false why later e f = f
-due-clear true why later e f = absurd (both-ways true e refl)
 
 resting-open : (p : Phase) → is-resting p ≡ true → is-open p ≡ true
 resting-open Blank e = absurd (both-ways false refl e)

@@ -7,9 +7,11 @@ ghost use denote.Ref.{now as pointee};
 ghost use Rattle.std.specs.Of.Vec.{vec-items};
 ghost use Rattle.std.specs.Of.String.{string-bytes};
 ghost use Rattle.std.specs.Vec.{made};
+ghost use Rattle.walks.specs.Hall.{Hall};
 ghost use Rattle.job.specs.View.{state-of};
+ghost use Rattle.intake.specs.Sheets.{Obeys};
 ghost use Rattle.listing.specs.Listing.{listing};
-ghost use Rattle.maker.specs.Replies.{Replies, fault-line};
+ghost use Rattle.maker.specs.Replies.{Lists, Replies, fault-line};
 ghost use Rattle.maker.specs.Tables.{by-time, Tabled, cells, Ready, Suits};
 use chains::Chain;
 use intake::SheetFault;
@@ -131,9 +133,11 @@ fn fault_text(heap: Global, fault: SheetFault) -> Result<String, AllocError>
 }
 
 // Answers any bytes: the listing of the least walk values of the hall of which they are the sheet, or the fault that is
-// due. Refused only for want of memory.
+// due; to the sheet of a valid hall always its listing. Time by the bytes, and by pairs and legs for the table. Refused
+// only for want of memory.
 pub fn answer(heap: Global, sheet: &[u8]) -> Result<Reply, AllocError>
     ensures made { λ r. ⌜ made r (λ reply. Replies (now (sheet .entry)) reply) ⌝ }
+    ensures bound { λ r. ⌜ ((h : Hall) → Obeys (now (sheet .entry)) h → made r (λ reply. Lists h reply)) ⌝ }
 {
     let mut job = Job::new(heap)?;
     match take_sheet(&mut job, sheet) {

@@ -1,12 +1,17 @@
 use mathlib.Core.List.{[]}
-use mathlib.Core.Path.{sym, ap, subst, _∙_}
+use mathlib.Core.Path.{_≡_, sym, ap, subst, _∙_}
 use lib.ListN.{length}
 use Rattle.queue.specs.Meaning.{Meaning}
+use Rattle.walks.specs.Hall.{Hall}
+use Rattle.model.specs.State.{closed}
+use Rattle.model.specs.declared.Phase.the-variants.{Laying}
 use Rattle.job.specs.View.{state-of}
 use Rattle.listing.specs.Listing.{listing}
 use Rattle.runs.specs.Lists.{Run, start}
 use Rattle.intake.specs.Sheets.{layings}
+use Rattle.maker.specs.Replies.{Lists}
 use Rattle.maker.specs.Tables.{by-time, Tabled, cells}
+use Rattle.maker.specs.declared.Reply.the-variants.{Listing}
 use Rattle.maker.proofs.answer.Needs as need
 
 -- no queue yet
@@ -28,16 +33,17 @@ make-table-requires c κs =
 
 pub returns-in-Ok : need.returns-in-Ok
 returns-in-Ok c =
-    let took = c .in-Ok .ensures tt .cases in
-    let table = c .in-Continue-make-table .ensures tt in
-    let hall = ap (λ s. s .hall) (took .2) in
     let value = cells (state-of (c .make-table .last .job)) in
+    let table = c .in-Continue-make-table .ensures tt in
+    let lists : (h : Hall) → state-of (c .take-sheet .last .job) ≡ closed Laying h → Lists h (Listing (c .in-Continue-listed .field-0)) =
+    λ h is.
+    let hall = ap (λ s. s .hall) is in (
+      value,
+      subst (λ k. Tabled by-time k value) hall (table .value),
+      c .in-Continue-listed .ensures tt .made ∙ ap (λ k. listing (k .points) value) (table .same ∙ hall),
+    ) in
+    let took = c .in-Ok .ensures tt .cases in
     record {
-      made = (
-        took .0,
-        value,
-        took .1,
-        subst (λ h. Tabled by-time h value) hall (table .value),
-        c .in-Continue-listed .ensures tt .made ∙ ap (λ h. listing (h .points) value) (table .same ∙ hall),
-      );
+      made = (took .0, took .1, lists (took .0) (took .2));
+      bound = λ h obeys. lists h (c .in-Ok .ensures tt .bound h obeys);
     }
