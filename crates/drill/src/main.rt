@@ -66,6 +66,19 @@ fn edges(rt: &LibcRuntime) -> Result<(), AnyError> {
     tell(rt, &mut ring, 1, 12)
 }
 
+// The wheel that halltable uses: width 64 on a ring of 64 slots.
+fn widest(rt: &LibcRuntime) -> Result<(), AnyError> {
+    let mut slots = [Chain::new(); 64];
+    let mut cells = [ring::Cell::new(); 40];
+    let ring = Ring::new(&mut slots, &mut cells);
+    let Ok(wheel) = Wheel::new(rt.alloc(), 64, ring) else {
+        return Err("no memory".into());
+    };
+    let band = wheel.band();
+    println!(rt, "a wheel of width 64 on a ring of 64 slots: band {band}")?;
+    Ok(())
+}
+
 // What the trials say: ring, heap and wheel at the edges of their figures.
 fn trials(rt: &LibcRuntime) -> Result<(), AnyError> {
     for (slots, cells) in [
@@ -134,5 +147,6 @@ fn main(rt: LibcRuntime) -> Result<(), AnyError> {
     simple(&rt)?;
     wheels(&rt)?;
     edges(&rt)?;
+    widest(&rt)?;
     trials(&rt)
 }

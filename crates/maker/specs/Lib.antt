@@ -1,2 +1,3 @@
 pub mod Tables
 pub mod Replies
+pub mod Lists

@@ -11,6 +11,7 @@ ghost use Rattle.walks.specs.Hall.{Hall};
 ghost use Rattle.job.specs.View.{state-of};
 ghost use Rattle.intake.specs.Sheets.{Obeys};
 ghost use Rattle.listing.specs.Listing.{listing};
+ghost use Rattle.maker.specs.Lists.{Lists-job};
 ghost use Rattle.maker.specs.Replies.{Lists, Replies, fault-line};
 ghost use Rattle.maker.specs.Tables.{by-time, Tabled, cells, Ready, Suits};
 use chains::Chain;
@@ -20,6 +21,8 @@ use job::Job;
 use job::LayingPermit;
 use listing::Table;
 use model::BUDGET_LIMIT;
+use model::Phase;
+use model::Refusal;
 use queue::Queue;
 use ring::Cell;
 use ring::Ring;
@@ -119,6 +122,26 @@ fn listed(heap: Global, job: &Job) -> Result<Vec<u8>, AllocError>
     match listing::write(&values, bytes.as_mut_slice()) {
         Ok(_) => Ok(bytes),
         Err(_) => unreachable(),
+    }
+}
+
+// Writes the listing of a finished job at the front of a buffer, and answers its length. Refused where the job is not
+// resting, where something waits, and where the buffer is too short.
+pub fn list(job: &Job, buffer: &mut [u8]) -> Result<usize, Refusal>
+    ensures cases { λ r. ⌜ Lists-job (state-of (now (job .entry))) (now (buffer .entry)) r (now (buffer .exit)) ⌝ }
+{
+    let tally = job.tally();
+    match tally.phase {
+        Phase::Resting => {}
+        _ => return Err(Refusal::WrongPhase),
+    }
+    if tally.waiting > 0 {
+        return Err(Refusal::Unfinished);
+    }
+    let values = Values { job };
+    match listing::write(&values, buffer) {
+        Ok(len) => Ok(len),
+        Err(_) => Err(Refusal::BufferShort),
     }
 }
 
