@@ -9,7 +9,7 @@ ghost use Rattle.model.specs.Calls.{Looks, Reads, seen, is-settled, tally-of};
 ghost use Rattle.model.specs.State.{is-open, pair-at, value-of};
 ghost use Rattle.model.specs.declared.Pair.the-variants.{Unseen};
 ghost use Rattle.job.specs.Parts.{Told, Noted};
-ghost use Rattle.job.specs.Promise.{Trusted};
+ghost use Rattle.job.specs.Promise.{Trusted, Outcomes-listed};
 ghost use Rattle.job.specs.View.{state-of};
 use crate::phases;
 use crate::state::Job;
@@ -138,13 +138,21 @@ impl Job {
         ensures { λ _. ⌜ Trusted (state-of (now (self .entry))) ⌝ }
     {}
 
+    // No outcome of a call falls outside the lists that the law speaks of. There is nothing to do.
+    fn listed(&self)
+        ensures { λ _. ⌜ Outcomes-listed (state-of (now (self .entry))) ⌝ }
+    {
+    }
+
     // What stands and what was done. Constant time. The law over every list of calls stands here: these counts are
     // exact, and the table that they are of can be trusted.
     pub fn tally(&self) -> Tally
         ensures value { λ r. ⌜ r ≡ tally-of (state-of (now (self .entry))) ⌝ }
         ensures law { λ _. ⌜ Trusted (state-of (now (self .entry))) ⌝ }
+        ensures listed { λ _. ⌜ Outcomes-listed (state-of (now (self .entry))) ⌝ }
     {
         self.trusted();
+        self.listed();
         Tally {
             phase: self.phase,
             legs: self.laid(),
