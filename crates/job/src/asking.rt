@@ -141,8 +141,7 @@ impl Job {
     // No outcome of a call falls outside the lists that the law speaks of. There is nothing to do.
     fn listed(&self)
         ensures { λ _. ⌜ Outcomes-listed (state-of (now (self .entry))) ⌝ }
-    {
-    }
+    {}
 
     // What stands and what was done. Constant time. The law over every list of calls stands here: these counts are
     // exact, and the table that they are of can be trusted.
