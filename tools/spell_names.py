@@ -73,6 +73,8 @@ def main():
             d, m = declared(p, t)
             own |= d
             made |= m
+        else:
+            own |= {n for line in re.findall(r"^ghost use [^\n]*", t, re.M) for n in re.findall(rf"\bas ({NAME})", line)}
     own = {n for n in own if not n.startswith(("invariant-", "decreases-"))} - library
     # a name that stands after a dot in an answer and is no field is a step of a goal's context
     fields = set()

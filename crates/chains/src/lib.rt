@@ -6,6 +6,8 @@
 // A call is stated over three rows of the slice: the next links, the previous links, and the bare elements, which are
 // what is left of the elements when their links are ignored. It promises each row after the call, exactly, and touches
 // nothing but links.
+#![tactic(auto)]
+
 ghost use Rattle.std.specs.Prelude.{◌≡◌, ℕ, map, None, Option, slice_index_or, slice_set};
 ghost use Rattle.chains.specs.Links.{put_at, onward, fronted, fronted_prevs, unlinked, unlinked_nexts, unlinked_prevs};
 

@@ -1,5 +1,7 @@
 // Damaged sheets, each with the one line that halltable answers for it, held to this program's `stdout`. A test: it
 // promises nothing, and only calls `maker::answer`.
+#![tactic(auto)]
+
 use maker::Reply;
 use std::alloc::Global;
 

@@ -2,6 +2,8 @@
 //
 // The drill is generic: a ring, a heap, and a wheel on a ring, on a heap and on a wheel go through the same code, and give
 // the same keys in the same order. A test: it promises nothing.
+#![tactic(auto)]
+
 use anyhow::anyhow;
 use chains::Chain;
 use heap::Heap;

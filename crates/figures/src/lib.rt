@@ -1,6 +1,8 @@
 // The figures that bound everything, and the refusal of one outside its range.
 //
 // Each limit is the largest number allowed. This crate promises only the refusal's number, and uses no other crate.
+#![tactic(auto)]
+
 ghost use Rattle.std.specs.Prelude.{◌≡◌};
 ghost use Rattle.figures.specs.Limits.{out_of_range_number};
 

@@ -2,9 +2,11 @@
 //
 // A refused sheet ends the program with status 1, and so does input that cannot be read, which is told on standard
 // error. Nothing is written before the answer is known.
-use anyhow::anyhow;
+#![tactic(auto)]
+
 use maker::Reply;
 use std::io::Read;
+use std::process::ExitCode;
 
 // One byte more than the longest sheet: enough to know that a sheet is too long.
 const READ_LIMIT: u64 = 32_769;
@@ -26,9 +28,9 @@ fn run(rt: &HostRuntime) -> anyhow::Result<bool> {
     }
 }
 
-fn main(rt: HostRuntime) -> anyhow::Result<()> {
+fn main(rt: HostRuntime) -> anyhow::Result<ExitCode> {
     if run(&rt)? {
-        return Ok(());
+        return Ok(ExitCode::SUCCESS);
     }
-    Err(anyhow!("the sheet is refused"))
+    Ok(ExitCode::FAILURE)
 }

@@ -1,6 +1,6 @@
 -- The places and the items stay each other's inverse: over an exchange of two places, an entering, another key and a
 -- removal.
-use Rattle.std.proofs.Common.{◌≡◌, ℕ, ◌-◌, ◌<◌, ◌≢◌, List, length, Some, unwrap_or, sym, ap, ◌∙◌, inl, inr, arith}
+use Rattle.std.proofs.Common.{◌≡◌, ℕ, ◌<◌, ◌≢◌, List, length, Some, unwrap_or, sym, ap, ◌∙◌, inl, inr, arith}
 use Rattle.std.proofs.lemmas.Bool.{cases_eq}
 use Rattle.heap.specs.declared.Cell.{Cell}
 use Rattle.heap.specs.Cells.{key_at, place_at, item_at, rank, stood, swapped}

@@ -1,5 +1,5 @@
 -- One turn of each sift, and its end.
-use Rattle.std.proofs.Common.{◌≡◌, ℕ, ◌-◌, ◌<◌, ◌≤◌, ◌≢◌, List, sym, subst, arith}
+use Rattle.std.proofs.Common.{◌≡◌, ℕ, ◌<◌, ◌≤◌, ◌≢◌, List, sym, subst, arith}
 use Rattle.heap.specs.declared.Cell.{Cell}
 use Rattle.heap.specs.Cells.{rank, swapped}
 use Rattle.heap.specs.Order.{Linked, Rising, Sinking, Heaped, Lower, parent}

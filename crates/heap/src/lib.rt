@@ -3,6 +3,8 @@
 // The waiting items stand in a tree in which none has a lower key than the one above it. Cell i of the row has the key
 // of item i and its place in the tree, and cell p has the item that stands at place p. It promises the meaning of a
 // queue, with the widest band; it touches the lent cells alone, and knows nothing of halls or jobs.
+#![tactic(auto)]
+
 mod moves;
 mod row;
 mod tree;

@@ -1,7 +1,7 @@
 // Reads and writes of the row of cells. An index past the end reads a blank cell, and a write there does nothing.
 ghost use Rattle.std.specs.Prelude.{◌≡◌, length, None, slice_index_or};
 ghost use Rattle.queue.specs.Meaning.{cleared};
-ghost use Rattle.heap.specs.Cells.{blank, rank as rank-at, keyed, itemed, placed, stood, swapped, keys};
+ghost use Rattle.heap.specs.Cells.{blank, rank as rank_at, keyed, itemed, placed, stood, swapped, keys};
 ghost use Rattle.heap.specs.Contents.{contents, bare, Agrees};
 
 use super::Cell;
@@ -33,7 +33,7 @@ pub(crate) fn key_of(cells: &[Cell], item: usize) -> Option<u32>
 
 // The key of the item at the place.
 pub(crate) fn rank(cells: &[Cell], place: usize) -> u32
-    ensures { result ≡ rank-at cells.now place }
+    ensures { result ≡ rank_at cells.now place }
 {
     let item = cell_at(cells, place).item;
     cell_at(cells, item).key.unwrap_or(0)

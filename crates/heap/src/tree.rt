@@ -1,6 +1,6 @@
 // The tree that the row holds: how an item rises or sinks to its place.
 ghost use Rattle.std.specs.Prelude.{◌≡◌, ℕ, ◌+◌, ◌-◌, ◌/◌, ◌<◌, ◌≤◌, length, Some, None, slice_set};
-ghost use Rattle.heap.specs.Cells.{key_at, rank as rank-at, keys};
+ghost use Rattle.heap.specs.Cells.{key_at, rank as rank_at, keys};
 ghost use Rattle.heap.specs.Order.{Linked, Rising, Sinking, Heaped, Lower};
 
 use super::Cell;
@@ -9,7 +9,7 @@ use super::row::{cell_at, rank, set_key, stand, swap};
 // Swaps the item at the place upwards until its parent's rank is no higher.
 fn sift_up(cells: &mut [Cell], place: usize)
     ensures same { keys cells.new ≡ keys cells.old }
-    ensures keeps { (n : ℕ) → Linked cells.old n → Rising (rank-at cells.old) n place → Heaped cells.new n }
+    ensures keeps { (n : ℕ) → Linked cells.old n → Rising (rank_at cells.old) n place → Heaped cells.new n }
 {
     let mut at = place;
     while at > 0 {
@@ -25,7 +25,7 @@ fn sift_up(cells: &mut [Cell], place: usize)
 // The child of least rank.
 fn lower_child(cells: &[Cell], count: usize, place: usize) -> usize
     requires { place < count / 2 }
-    ensures { Lower (rank-at cells.now) count place result }
+    ensures { Lower (rank_at cells.now) count place result }
 {
     let left = 2 * place + 1;
     let right = left + 1;
@@ -39,7 +39,7 @@ fn lower_child(cells: &[Cell], count: usize, place: usize) -> usize
 // Swaps the item at the place downwards until no child's rank is lower.
 fn sift_down(cells: &mut [Cell], count: usize, place: usize)
     ensures same { keys cells.new ≡ keys cells.old }
-    ensures keeps { Linked cells.old count → Sinking (rank-at cells.old) count place → Heaped cells.new count }
+    ensures keeps { Linked cells.old count → Sinking (rank_at cells.old) count place → Heaped cells.new count }
 {
     let mut at = place;
     while at < count / 2 {
@@ -75,7 +75,7 @@ pub(crate) fn lower(cells: &mut [Cell], item: usize, key: u32)
 // Removes the item, which waits at a least key: the last one takes its place.
 pub(crate) fn remove(cells: &mut [Cell], count: usize, item: usize)
     ensures after { keys cells.new ≡ slice_set (keys cells.old) item None }
-    ensures keeps { (k : ℕ) → Heaped cells.old count → key_at cells.old item ≡ Some k → k ≤ rank-at cells.old 0 → Heaped cells.new (count - 1) }
+    ensures keeps { (k : ℕ) → Heaped cells.old count → key_at cells.old item ≡ Some k → k ≤ rank_at cells.old 0 → Heaped cells.new (count - 1) }
 {
     let place = cell_at(cells, item).place;
     let last = count.saturating_sub(1);

@@ -2,6 +2,8 @@
 //
 // The hall has four points: legs 0 to 1 and 1 to 2 of cost 2, 0 to 2 of cost 5, 2 to 0 of cost 9. Held to this program's
 // `stdout`. It promises nothing, and uses the library as any program may.
+#![tactic(auto)]
+
 use anyhow::anyhow;
 use chains::Chain;
 use job::{Job, LayingPermit, RestingPermit};
@@ -13,9 +15,9 @@ use rules::{Rule, RunningTime, WorstLeg};
 // What the program says of a refusal.
 fn refused(refusal: Refusal) -> anyhow::Error {
     match refusal {
-        Refusal::WrongPhase => "the job is in another phase".into(),
-        Refusal::Unfit => "the queue does not fit the job".into(),
-        _ => "the call was refused".into(),
+        Refusal::WrongPhase => anyhow!("the job is in another phase"),
+        Refusal::Unfit => anyhow!("the queue does not fit the job"),
+        _ => anyhow!("the call was refused"),
     }
 }
 

@@ -1,7 +1,7 @@
 -- To some bytes one thing is due: a hall of which they are the sheet, and which is taken whole, or a fault.
 -- Assumes nothing.
 use Rattle.std.proofs.Common.{◌≡◌, ℕ, suc, ◌+◌, ◌<◌, ◌≤◌, Bool, true, false, not, ◌&&◌, ltb, leb, List, [], ◌∷◌, ◌++◌, length, None, sym, refl, ap, ◌∙◌, subst, ⊎_elim, append_assoc, arith, length-append, le-ltb, lt-ltb, le-leb}
-use Rattle.std.specs.List.{flat_map, AllByRecursion as All}
+use Rattle.std.specs.List.{flat_map, AllByRecursion}
 use Rattle.std.proofs.lemmas.List.{append-nil, length_push}
 use Rattle.std.proofs.lemmas.Bool.{cases_lt}
 use borrow.Author.Tests.{lt-leb}
@@ -45,7 +45,7 @@ lay_clear h ls l (f, g, k) few =
     (due_clear (ltb h.bound l.cost) LegCost (due (leb leg_limit (length ls)) LegsFull None) (le-ltb h.bound l.cost k)
     (due_clear (leb leg_limit (length ls)) LegsFull None (lt-leb leg_limit (length ls) few) refl))
 
-all_mid : (P : Leg → Type 0) (ls : List Leg) (l : Leg) (ms : List Leg) → All P (ls ++ l ∷ ms) → P l
+all_mid : (P : Leg → Type 0) (ls : List Leg) (l : Leg) (ms : List Leg) → AllByRecursion P (ls ++ l ∷ ms) → P l
 all_mid P [] l ms a = a.0
 all_mid P (x ∷ ls) l ms a = all_mid P ls l ms a.1
 
@@ -89,7 +89,7 @@ module _ (bytes : List ℕ) (h : Hall) (obeys : Obeys bytes h) where
         tells = refl;
       }
   legs_end (l ∷ ms) ls n r m taken =
-      let (f, g, k) = all_mid (Inside h) ls l ms (subst (λ x. All (Inside h) x) m.split obeys.valid.inside) in
+      let (f, g, k) = all_mid (Inside h) ls l ms (subst (λ x. AllByRecursion (Inside h) x) m.split obeys.valid.inside) in
       let few = laid_few ls (l ∷ ms) m.split in
       let t : Standing = record { rest = flat_map leg_line ms ++ end_line h; lines = more r.lines; legs = more r.legs; closed = false } in
       let this : LineRead r LegLine (l.from ∷ l.to ∷ l.cost ∷ []) t =

@@ -1,11 +1,11 @@
 -- From one line to a whole sheet: what is due to the sheet, and the list of calls that it is.
 -- Assumes nothing.
-use Rattle.std.proofs.Common.{◌≡◌, ℕ, suc, ◌+◌, ◌<◌, ◌≤◌, Bool, true, false, List, [], ◌∷◌, ◌++◌, length, Ok, Err, sym, refl, ap, ◌∙◌, subst, inl, inr, add-one, arith, length-append}
+use Rattle.std.proofs.Common.{◌≡◌, ℕ, suc, ◌<◌, ◌≤◌, Bool, true, false, List, [], ◌∷◌, ◌++◌, length, Ok, Err, sym, refl, ap, ◌∙◌, subst, inl, inr, add-one, arith, length-append}
 use Rattle.std.proofs.lemmas.List.{length_push}
 use Rattle.std.proofs.lemmas.Bool.{both_ways}
 use Rattle.queue.specs.Meaning.{Meaning}
 use Rattle.model.specs.declared.Refusal.{Refusal}
-use Rattle.model.specs.Calls.{laid, lay_due, Lays}
+use Rattle.model.specs.Calls.{laid, lay_due, Lays, made, make_due, Makes}
 use Rattle.model.specs.Refusals.{refusal_number}
 use Rattle.model.specs.State.{JobState, blank}
 use Rattle.sheet.specs.Form.{written}
@@ -21,7 +21,15 @@ use Rattle.intake.specs.declared.SheetFault.{SheetFault}
 use Rattle.intake.specs.Sheets.{sheet_limit, nth, fault, Taken, none, one_more, Due, too_long, by_form, by_numbers, layings}
 use Rattle.intake.specs.Steps.{FaultAt, LineTaken, Steps}
 use Rattle.intake.proofs.Stages.{next_line}
+use Rattle.job.specs.declared.permits.LayingPermit.{LayingPermit}
 use Rattle.runs.proofs.Answered.{accepted, refused}
+
+-- the first line, and the job's refusal of its numbers
+module _ (r t : Standing) (s u : JobState) (n b : ℕ) (line : LineRead r Start (n ∷ b ∷ []) t) where
+  pub start_refused : (e : Refusal) (x : SheetFault) → Makes {T = LayingPermit} {E = Refusal} (λ y. y) s n b (Err e) u → x ≡ fault (refusal_number e) t.lines Job → FaultAt r blank x
+  start_refused e x answer is =
+      let (some, same) = refused (λ y. y) (u ≡ s) (λ (_ : LayingPermit). u ≡ made n b) (make_due n b) e answer in
+      inr (Start, (n ∷ b ∷ []), t, e, line, some, is ∙ ap (λ k. fault (refusal_number e) k Job) line.lines)
 
 -- a leg line, and the job's answer to its numbers
 module _ (r t : Standing) (s u : JobState) (f g k : ℕ) (line : LineRead r Leg (f ∷ g ∷ k ∷ []) t) where

@@ -15,7 +15,7 @@
 --   Refuses       what is answered where a fault is due: that fault
 --   Continues     a taken sheet is a making and a laying for each leg; a refused one leaves a blank job
 use Rattle.std.specs.Prelude.{◌≡◌, ℕ, zero, suc, ◌<◌, ◌≤◌, List, [], ◌∷◌, ◌++◌, length, Some, None, Ok, Err, Option, Result, slice_index}
-use Rattle.std.specs.List.{flat_map, AllByRecursion as All}
+use Rattle.std.specs.List.{flat_map, AllByRecursion}
 use Rattle.figures.specs.Limits.{cost_limit}
 use Rattle.queue.specs.Meaning.{Meaning}
 use Rattle.walks.specs.Hall.{Hall}
@@ -65,7 +65,7 @@ pub record Valid (h : Hall) : Type 0 where
   pub few_points : h.points ≤ point_limit
   pub some_bound : 1 ≤ h.bound
   pub low_bound : h.bound ≤ cost_limit
-  pub inside : All (Inside h) h.legs
+  pub inside : AllByRecursion (Inside h) h.legs
   pub few_legs : length h.legs ≤ leg_limit
 
 pub record Obeys (bytes : List ℕ) (h : Hall) : Type 0 where

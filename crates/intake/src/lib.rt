@@ -3,6 +3,8 @@
 // Faults of form come from the reader, layer S; faults of a line's numbers come from the job, layer J, after the line's
 // end was read. A refused sheet leaves a blank job. It promises the hall of the sheet or the one fault that is due, and
 // touches no queue and no table.
+#![tactic(auto)]
+
 ghost use Rattle.std.specs.Prelude.{◌≡◌, ◌<◌, false, List};
 ghost use Rattle.queue.specs.Meaning.{Meaning};
 ghost use Rattle.walks.specs.Hall.{Hall};

@@ -1,5 +1,5 @@
 -- Which refusal is due, and the answer that goes with it.
-use Rattle.std.proofs.Common.{◌≡◌, ℕ, ◌+◌, ◌*◌, ◌<◌, ◌≤◌, Bool, true, false, cond, List, [], length, Some, None, Ok, Err, Option, Result, sym, refl, ap, ◌∙◌, subst, arith}
+use Rattle.std.proofs.Common.{◌≡◌, ℕ, ◌<◌, ◌≤◌, Bool, true, false, List, length, Some, None, Ok, Err, Option, sym, refl, ◌∙◌, subst, arith}
 use Rattle.std.proofs.lemmas.List.{nil_from_length}
 use Rattle.std.proofs.lemmas.Bool.{cond-true, cond-false, not_from_true, and_from, lt-ltb, le-ltb, lt-leb, le-leb}
 use Rattle.walks.specs.Hall.{Hall}
@@ -10,7 +10,7 @@ use Rattle.model.specs.declared.Phase.TheVariants.{Blank, Laying, Resting, Drawn
 use Rattle.model.specs.declared.Refusal.{Refusal}
 use Rattle.model.specs.declared.Refusal.TheVariants.{LegsFull}
 use Rattle.model.specs.Refusals.{due, Answers}
-use Rattle.model.specs.State.{JobState, closed, unopened, is_laying, is_resting, is_open}
+use Rattle.model.specs.State.{JobState, closed, unopened, is_laying, is_open}
 use Rattle.model.specs.Calls.{lay_due}
 
 pub due_past : (b : Bool) (why : Refusal) (later x : Option Refusal) → b ≡ false → later ≡ x → due b why later ≡ x

@@ -1,10 +1,10 @@
 -- An entry that a job notes, and one that a queue names.
-use Rattle.std.proofs.Common.{◌≡◌, ℕ, suc, ◌+◌, ◌*◌, ◌/◌, ◌%◌, ◌<◌, ◌≤◌, Bool, true, false, eqb, ◌↔◌, List, length, get_or, set, Some, None, Ok, Err, Option, sym, refl, ap, ◌∙◌, subst, inl, inr, mod-lt, div-lt_iff_lt-mul, arith}
+use Rattle.std.proofs.Common.{◌≡◌, ℕ, ◌+◌, ◌*◌, ◌/◌, ◌%◌, ◌<◌, ◌≤◌, true, false, List, length, get_or, set, Some, None, Ok, Err, Option, refl, ap, subst, inl, inr, mod-lt, div-lt_iff_lt-mul, arith}
 use Rattle.std.specs.Option.{ok_or}
 use Rattle.std.proofs.lemmas.List.{get_or_past}
 use Rattle.std.proofs.lemmas.Bool.{cases_lt, eqb-true, both_ways}
 use Rattle.figures.specs.Limits.{value_limit}
-use Rattle.queue.specs.Meaning.{Meaning, Least, Takes, Banded, key_of}
+use Rattle.queue.specs.Meaning.{Meaning, Least, Takes, Banded}
 use Rattle.queue.specs.declared.Entry.{Entry}
 use Rattle.queue.specs.declared.TakeRefusal.{TakeRefusal}
 use Rattle.queue.specs.declared.TakeRefusal.TheVariants.{NotWaiting, NotLeast}

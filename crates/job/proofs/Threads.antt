@@ -1,11 +1,10 @@
 -- The chains of the points, and the legs that leave them.
-use Rattle.std.proofs.Common.{◌≡◌, ℕ, zero, suc, ◌+◌, ◌<◌, ◌≤◌, Bool, true, false, cond, eqb, ◌≢◌, List, [], ◌∷◌, ◌++◌, map, length, get_or, set, replicate, Some, None, Option, sym, refl, ap, ◌∙◌, subst, inl, inr, add-one, arith, length-append}
+use Rattle.std.proofs.Common.{◌≡◌, ℕ, zero, suc, ◌+◌, ◌<◌, ◌≤◌, cond, eqb, ◌≢◌, List, [], ◌∷◌, ◌++◌, map, length, get_or, set, replicate, Some, None, Option, sym, refl, ap, ◌∙◌, subst, inl, inr, add-one, arith, length-append}
 use mathlib.Core.Logic.{∥∥₁_elim, ∥∥₁_prop}
-use base.Stored.{Coded, Coded-set, coded_ℕ, coded_via}
+use base.Stored.{Coded-set, coded_ℕ, coded_via}
 use native.Mathlib.Bridge.{le_prop}
-use denote.Struct.Props.{three_prop}
 use lib.ListN.{length-map}
-use Rattle.std.proofs.lemmas.List.{get_or_past, get_or-replicate, get_or_append_left, get_or_push, get_or-set_same, get_or-set_other, map-append, length_push, set_at}
+use Rattle.std.proofs.lemmas.List.{get_or_past, get_or_append_left, get_or_push, get_or-set_same, get_or-set_other, map-append, length_push, set_at}
 use Rattle.std.proofs.lemmas.Bool.{cases_eq, cases_lt, cond-true, cond-false, eq-eqb, ne_eqb}
 use Rattle.chains.specs.declared.Chain.{Chain}
 use Rattle.chains.specs.Threads.{Chained}
@@ -181,7 +180,11 @@ same_option = Coded-set (coded_via coded_ℕ number number_once)
 
 pub chained_once : (row : List (Option ℕ)) (head : Option ℕ) (xs : List ℕ) → IsProp (Chained row head xs)
 chained_once row head [] = same_option head None
-chained_once row head (x ∷ xs) = three_prop (same_option head (Some x)) le_prop (chained_once row (get_or row x None) xs)
+chained_once row head (x ∷ xs) = λ p q i. (
+  same_option head (Some x) p.0 q.0 i,
+  le_prop p.1 q.1 i,
+  chained_once row (get_or row x None) xs p.2 q.2 i,
+)
 
 pub chain_of : (n b : ℕ) (legs : List Leg) (chains : List Chain) (v : ℕ) → Threaded n b legs chains
     → Chained (nexts legs) (first_of chains v) (leaving (hall_of n b legs) v)

@@ -1,5 +1,5 @@
 -- Work by units: how the units done go on.
-use Rattle.std.proofs.Common.{◌≡◌, ℕ, suc, ◌+◌, ◌-◌, ◌<◌, ◌≤◌, true, false, List, [], ◌∷◌, length, Some, None, Option, sym, refl, ap, ◌∙◌, subst, arith}
+use Rattle.std.proofs.Common.{◌≡◌, ℕ, ◌+◌, ◌-◌, ◌<◌, ◌≤◌, true, false, List, [], ◌∷◌, length, Some, None, Option, ◌∙◌, subst, arith}
 use Rattle.queue.specs.Meaning.{Meaning, Least}
 use Rattle.queue.specs.declared.Entry.{Entry}
 use Rattle.model.specs.State.{JobState}

@@ -10,7 +10,7 @@
 --   Open      an open job has a pair of each two points; and how many legs it tried at most
 --   Ends      the pair whose docket is out lies in the hall
 --   Left      its legs are still to try
-use Rattle.std.specs.Prelude.{◌≡◌, ℕ, ◌+◌, ◌*◌, ◌<◌, ◌≤◌, Bool, true, false, List, [], length, get_or}
+use Rattle.std.specs.Prelude.{◌≡◌, ℕ, ◌+◌, ◌*◌, ◌<◌, ◌≤◌, Bool, true, false, List, length}
 use Rattle.figures.specs.Limits.{cost_limit, value_limit}
 use Rattle.chains.specs.declared.Chain.{Chain}
 use Rattle.chains.specs.Threads.{Chained}

@@ -1,7 +1,7 @@
 // The calls that draw pairs and spread them.
 ghost use Rattle.std.specs.Prelude.{◌≡◌, ◌+◌, ◌*◌, ◌<◌, ◌≤◌, true, false, length, IfOk, IfErr, Some, vec_len, vec_capacity, OnErr, slice_index_or, slice_set};
 ghost use Rattle.std.specs.Option.{ok_or};
-ghost use Rattle.model.specs.Calls.{Abandons, Draws, Spreads, noted, settle, drawn, spread as spread-of, spread_desk};
+ghost use Rattle.model.specs.Calls.{Abandons, Draws, Spreads, noted, settle, drawn, spread as spread_of, spread_desk};
 ghost use Rattle.model.specs.State.{settled_in, waiting_in};
 ghost use Rattle.model.specs.declared.Pair.TheVariants.{Unseen};
 ghost use Rattle.model.specs.declared.Refusal.TheVariants.{NothingWaits};
@@ -64,7 +64,7 @@ impl Job {
         rule: &R,
     )
         requires { self.old.phase ≡ Drawn from to }
-        ensures value { Q.Queue.sound queue.old → state_of self.new ≡ spread-of (R.Rule.joined rule.now) (state_of self.old) from to (Q.Queue.meaning queue.old) }
+        ensures value { Q.Queue.sound queue.old → state_of self.new ≡ spread_of (R.Rule.joined rule.now) (state_of self.old) from to (Q.Queue.meaning queue.old) }
         ensures after { Q.Queue.sound queue.old → Q.Queue.meaning queue.new ≡ (spread_desk (R.Rule.joined rule.now) (state_of self.old) from to (Q.Queue.meaning queue.old)).queue }
         ensures keeps { Q.Queue.sound queue.old → Q.Queue.sound queue.new }
         ensures same { self.new.phase ≡ Resting }

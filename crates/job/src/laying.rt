@@ -1,7 +1,7 @@
 // The calls that make a hall and lay its legs.
 ghost use Rattle.std.specs.Prelude.{◌≡◌, ℕ, ◌≤◌, true, false, [], IfOk, IfErr, None, OnErr};
 ghost use Rattle.model.specs.Calls.{Makes, Lays, Reopens, emptied};
-ghost use Rattle.model.specs.State.{blank as no-hall, closed, is_open};
+ghost use Rattle.model.specs.State.{blank as no_hall, closed, is_open};
 ghost use Rattle.job.specs.Shape.{has_hall};
 ghost use Rattle.job.specs.Legs.{first_of};
 ghost use Rattle.job.specs.View.{state_of};
@@ -34,7 +34,7 @@ fn unthread(leaving: &mut [Chain])
 impl Job {
     // A job without a hall. All the memory that it ever needs is got here; refused where there is too little.
     pub fn new(heap: Global) -> Result<Job, AllocError>
-        ensures { IfOk result (λ j. state_of j ≡ no-hall) }
+        ensures { IfOk result (λ j. state_of j ≡ no_hall) }
     {
         let legs: Vec<Leg> = Vec::with_capacity(heap, LEG_LIMIT)?;
         let pairs: Vec<Pair> = Vec::with_capacity(heap, LEG_LIMIT)?;
@@ -74,7 +74,7 @@ impl Job {
 
     // Takes the hall away, in any phase. Time by the 40 points that may be.
     pub fn blank(&mut self)
-        ensures { state_of self.new ≡ no-hall }
+        ensures { state_of self.new ≡ no_hall }
     {
         self.reset(Phase::Blank, 0, 0);
     }

@@ -6,6 +6,8 @@
 // queue for its promise is still safe, and ends, with any other. The law over every list of calls stands on `work` and
 // `tally`. Memory is got only when a job is made anew. A job knows no kind of queue or rule, and no bytes; a refused call
 // touches nothing.
+#![tactic(auto)]
+
 mod asking;
 mod drawing;
 mod laying;

@@ -3,6 +3,8 @@
 // A listing is `TB n`, then for each pair, row by row, `PR u v value` or `NO u v`, then `EN` and the number of PR
 // lines, each with a line end. It promises these bytes, at the front of a buffer, whose rest is left alone, or in memory
 // of their own. It only asks a table for its values, and knows nothing of how it is made.
+#![tactic(auto)]
+
 ghost use Rattle.std.specs.Prelude.{◌≡◌, ℕ, ◌+◌, ◌<◌, ◌≤◌, ◌++◌, length, drop, IfOk, decimal, Option};
 ghost use Rattle.listing.specs.Buffer.{written, Writes};
 ghost use Rattle.listing.specs.Listing.{fields, line, pair_line, has, row, rows, found_from, found_pairs, listing};
@@ -131,10 +133,10 @@ fn value_lines(value: Option<u32>) -> u32
 
 // Writes the lines of the pairs from one point at a place, and answers the place after them.
 fn put_row<T: Table>(table: &T, from: usize, buffer: &mut [u8], at: usize) -> usize
-    requires bound { from < size table.now }
-    requires len { at + length (row (size table.now) (cell table.now) from) ≤ length buffer.old }
-    ensures value { result ≡ at + length (row (size table.now) (cell table.now) from) }
-    ensures after { buffer.new ≡ written buffer.old at (row (size table.now) (cell table.now) from) }
+    requires bound { from < T.size table.now }
+    requires len { at + length (row (T.size table.now) (T.cell table.now) from) ≤ length buffer.old }
+    ensures value { result ≡ at + length (row (T.size table.now) (T.cell table.now) from) }
+    ensures after { buffer.new ≡ written buffer.old at (row (T.size table.now) (T.cell table.now) from) }
 {
     let points = table.points();
     let mut end = at;
@@ -146,9 +148,9 @@ fn put_row<T: Table>(table: &T, from: usize, buffer: &mut [u8], at: usize) -> us
 
 // Writes the lines of all pairs at a place, and answers the place after them.
 fn put_rows<T: Table>(table: &T, buffer: &mut [u8], at: usize) -> usize
-    requires { at + length (rows (size table.now) (cell table.now)) ≤ length buffer.old }
-    ensures value { result ≡ at + length (rows (size table.now) (cell table.now)) }
-    ensures after { buffer.new ≡ written buffer.old at (rows (size table.now) (cell table.now)) }
+    requires { at + length (rows (T.size table.now) (T.cell table.now)) ≤ length buffer.old }
+    ensures value { result ≡ at + length (rows (T.size table.now) (T.cell table.now)) }
+    ensures after { buffer.new ≡ written buffer.old at (rows (T.size table.now) (T.cell table.now)) }
 {
     let mut end = at;
     for from in 0..table.points() {
@@ -166,9 +168,9 @@ struct Extent {
 
 // The extent of the lines of the pairs from one point.
 fn survey_row<T: Table>(table: &T, from: usize) -> Extent
-    requires { from < size table.now }
-    ensures len { result.len ≡ length (row (size table.now) (cell table.now) from) }
-    ensures items { result.found ≡ found_from (size table.now) (cell table.now) from }
+    requires { from < T.size table.now }
+    ensures len { result.len ≡ length (row (T.size table.now) (T.cell table.now) from) }
+    ensures items { result.found ≡ found_from (T.size table.now) (T.cell table.now) from }
 {
     let mut len = 0;
     let mut found = 0;
@@ -182,8 +184,8 @@ fn survey_row<T: Table>(table: &T, from: usize) -> Extent
 
 // The extent of a listing.
 fn survey<T: Table>(table: &T) -> Extent
-    ensures len { result.len ≡ length (listing (size table.now) (cell table.now)) }
-    ensures items { result.found ≡ found_pairs (size table.now) (cell table.now) }
+    ensures len { result.len ≡ length (listing (T.size table.now) (T.cell table.now)) }
+    ensures items { result.found ≡ found_pairs (T.size table.now) (T.cell table.now) }
 {
     let points = table.points();
     let mut len = 0;
@@ -201,16 +203,16 @@ fn survey<T: Table>(table: &T) -> Extent
 
 // How many bytes the listing of a table has. Asks for each pair's value once, with constant work for each figure.
 pub fn length<T: Table>(table: &T) -> usize
-    ensures { result ≡ length (listing (size table.now) (cell table.now)) }
+    ensures { result ≡ length (listing (T.size table.now) (T.cell table.now)) }
 {
     survey(table).len
 }
 
 // Writes the listing of a table, of which so many pairs have a value, at the front of a buffer that has room for it.
 fn put_listing<T: Table>(table: &T, found: u32, buffer: &mut [u8])
-    requires items { found ≡ found_pairs (size table.now) (cell table.now) }
-    requires len { length (listing (size table.now) (cell table.now)) ≤ length buffer.old }
-    ensures after { buffer.new ≡ listing (size table.now) (cell table.now) ++ drop (length (listing (size table.now) (cell table.now))) buffer.old }
+    requires items { found ≡ found_pairs (T.size table.now) (T.cell table.now) }
+    requires len { length (listing (T.size table.now) (T.cell table.now)) ≤ length buffer.old }
+    ensures after { buffer.new ≡ listing (T.size table.now) (T.cell table.now) ++ drop (length (listing (T.size table.now) (T.cell table.now))) buffer.old }
 {
     let points = table.points();
     let rows_at = put_line(buffer, 0, b"TB", &[points as u32]);
@@ -222,7 +224,7 @@ fn put_listing<T: Table>(table: &T, found: u32, buffer: &mut [u8])
 // A buffer that is too short is refused, and then all of it stays. Asks for each pair's value twice, first for the
 // length and then to write, with constant work for each figure.
 pub fn write<T: Table>(table: &T, buffer: &mut [u8]) -> Result<usize, TooShort>
-    ensures cases { Writes (listing (size table.now) (cell table.now)) buffer.old result buffer.new }
+    ensures cases { Writes (listing (T.size table.now) (T.cell table.now)) buffer.old result buffer.new }
 {
     let extent = survey(table);
     if buffer.len() < extent.len {
@@ -234,7 +236,7 @@ pub fn write<T: Table>(table: &T, buffer: &mut [u8]) -> Result<usize, TooShort>
 
 // The listing of a table, in memory of its own. Costs what `write` does. Refused only for want of memory.
 pub fn bytes<T: Table>(heap: Global, table: &T) -> Result<Vec<u8>, AllocError>
-    ensures made { IfOk result (λ v. v.items ≡ listing (size table.now) (cell table.now)) }
+    ensures made { IfOk result (λ v. v.items ≡ listing (T.size table.now) (T.cell table.now)) }
 {
     let extent = survey(table);
     let mut bytes = vec![in heap; 0u8; extent.len]?;

@@ -1,6 +1,6 @@
 -- The queue that a table is made on.
 -- Assumes nothing.
-use Rattle.std.proofs.Common.{◌≡◌, ℕ, ◌+◌, min, None, Option, ap, ◌∙◌, arith}
+use Rattle.std.proofs.Common.{◌≡◌, ℕ, min, None, Option, ap, ◌∙◌, arith}
 use lib.ListN.{length-replicate}
 use Rattle.figures.specs.Limits.{cell_limit}
 use Rattle.queue.specs.Meaning.{Meaning, capacity}

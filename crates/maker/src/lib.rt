@@ -3,6 +3,8 @@
 // A job takes the sheet, is opened on a wheel over a ring by running time without dwell, is worked until nothing waits,
 // and its table is listed. A sheet that does not obey the rules of a sheet is answered by a line that tells the fault. It
 // promises the whole, from bytes to bytes, and reads and writes nothing outside them.
+#![tactic(auto)]
+
 ghost use Rattle.std.specs.Prelude.{◌≡◌, IfOk, string_bytes, OnOk};
 ghost use Rattle.walks.specs.Hall.{Hall};
 ghost use Rattle.job.specs.View.{state_of};

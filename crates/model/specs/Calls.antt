@@ -9,18 +9,16 @@ use Rattle.figures.specs.Limits.{value_limit, cost_limit}
 use Rattle.queue.specs.Meaning.{Meaning, capacity, key_of, waiting, cleared, put, taken, Least}
 use Rattle.queue.specs.declared.Entry.{Entry}
 use Rattle.walks.specs.Hall.{Hall, Leg, leg}
-use Rattle.model.specs.declared.Phase.{Phase}
-use Rattle.model.specs.declared.Phase.TheVariants.{Blank, Laying, Resting, Drawn}
+use Rattle.model.specs.declared.Phase.TheVariants.{Laying, Resting, Drawn}
 use Rattle.model.specs.declared.Pair.{Pair}
 use Rattle.model.specs.declared.Pair.TheVariants.{Unseen, Waiting, Settled}
-use Rattle.model.specs.declared.Opening.{Opening}
 use Rattle.model.specs.declared.Answer.{Answer}
 use Rattle.model.specs.declared.Answer.TheVariants.{Value, NoWay, NotYet}
 use Rattle.model.specs.declared.Tally.{Tally}
 use Rattle.model.specs.declared.Refusal.{Refusal}
-use Rattle.model.specs.declared.Refusal.TheVariants.{Points, Bound, LegPoint, LegCost, LegsFull, Capacity, Band, Range, WrongPhase, Unfit, NoSuchPoint, BufferShort, Unsettled, NothingWaits, Unfinished, Budget}
+use Rattle.model.specs.declared.Refusal.TheVariants.{Points, Bound, LegPoint, LegCost, LegsFull, Capacity, Band, Range, WrongPhase, Unfit, NoSuchPoint, BufferShort, Unsettled, NothingWaits, Budget}
 use Rattle.model.specs.Refusals.{due, Answers}
-use Rattle.model.specs.State.{JobState, closed, is_laying, is_resting, is_open, is_drawn, is_finished, item, is_point, pair_at, value_of, noted_key, last_leg, settled_in, waiting_in, leaving, route}
+use Rattle.model.specs.State.{JobState, closed, is_laying, is_resting, is_open, is_drawn, is_finished, is_point, pair_at, value_of, noted_key, last_leg, settled_in, waiting_in, leaving, route}
 
 abbrev pub point_limit : ℕ
 point_limit = 40

@@ -8,8 +8,8 @@
 --   Finished     a resting job where nothing waits
 --   leaving      the numbers of the legs that leave a point, the latest laid first
 --   route        the last legs from a pair back to its start, in travel order
-use Rattle.std.specs.Prelude.{◌≡◌, ℕ, zero, suc, ◌+◌, ◌*◌, Bool, true, false, cond, ◌&&◌, List, [], ◌∷◌, ◌++◌, length, replicate, Some, None, Option, ◌==◌, nat_lt, slice_index_or}
-use Rattle.walks.specs.Hall.{Hall, Leg, leg}
+use Rattle.std.specs.Prelude.{ℕ, zero, suc, ◌+◌, ◌*◌, Bool, true, false, cond, ◌&&◌, List, [], ◌∷◌, ◌++◌, length, Some, None, Option, ◌==◌, nat_lt, slice_index_or}
+use Rattle.walks.specs.Hall.{Hall, leg}
 use Rattle.model.specs.declared.Phase.{Phase}
 use Rattle.model.specs.declared.Phase.TheVariants.{Blank, Laying, Resting, Drawn}
 use Rattle.model.specs.declared.Pair.{Pair}

@@ -2,6 +2,8 @@
 //
 // The definitions here say what every call of a job does, over a job's state and a queue's meaning; the crate `job` has
 // the calls themselves. This crate promises only the refusals' numbers; it has no job, no queue and no bytes.
+#![tactic(auto)]
+
 ghost use Rattle.std.specs.Prelude.{◌≡◌};
 ghost use Rattle.model.specs.Refusals.{refusal_number};
 

@@ -1,12 +1,11 @@
 -- Lemmas on the meaning of any waiting queue: how many items wait, that each key stays in its band, and that an item of
 -- lowest key can be taken.
-use Rattle.std.proofs.Common.{◌≡◌, ℕ, zero, suc, ◌+◌, ◌<◌, ◌≤◌, ◌≢◌, ◌⊎◌, List, [], ◌∷◌, length, get_or, set, replicate, IfErr, Some, None, Ok, Err, Option, Result, sym, refl, ap, ◌∙◌, inl, inr, arith}
-use lib.ListN.{length-replicate}
-use Rattle.std.proofs.lemmas.List.{get_or-set_same, get_or-set_other, get_or_past, set_past, get_or-replicate}
+use Rattle.std.proofs.Common.{◌≡◌, ℕ, zero, suc, ◌+◌, ◌<◌, ◌≤◌, ◌⊎◌, List, [], ◌∷◌, length, get_or, set, replicate, IfErr, Some, None, Ok, Err, Option, Result, sym, refl, ap, ◌∙◌, inl, inr, arith}
+use Rattle.std.proofs.lemmas.List.{get_or-set_same, get_or-set_other, set_past}
 use Rattle.std.proofs.lemmas.Bool.{cases_eq, cases_lt}
 use Rattle.queue.specs.declared.TakeRefusal.{TakeRefusal}
 use Rattle.queue.specs.declared.TakeRefusal.TheVariants.{NotWaiting, NotLeast}
-use Rattle.queue.specs.Meaning.{Meaning, Banded, Allowed, Lowest, Takes, capacity, key_of, held, one_if, put, taken, cleared}
+use Rattle.queue.specs.Meaning.{Meaning, Banded, Allowed, Lowest, Takes, key_of, held, one_if, put, taken}
 
 one_more : (k : Option ℕ) (n : ℕ) → one_if k n ≡ n + one_if k 0
 one_more None n = omega arith

@@ -5,6 +5,8 @@
 //
 // Every queue is proved to keep the meaning below, and code above it is proved once for all that do. A promise is made
 // of sound queues; each call keeps a queue sound, and on any other it is still safe and ends.
+#![tactic(auto)]
+
 ghost use Rattle.std.specs.Prelude.{◌≡◌, ℕ, Option, OnErr};
 ghost use Rattle.queue.specs.declared.Entry.{Entry};
 ghost use Rattle.queue.specs.Meaning.{Meaning, capacity, key_of, waiting, cleared, Least, Offers, Idle, Takes, Banded, offer_number, take_number};

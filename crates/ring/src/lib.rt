@@ -3,6 +3,8 @@
 // Key k lies in slot k mod S, where S is the number of slots, and the band is S - 1, so a slot holds one key only.
 // Slots and cells are lent at making. Offering takes constant time; the least item is looked for from the floor on. It
 // promises the meaning of a queue; it touches the lent memory alone, and knows nothing of halls or jobs.
+#![tactic(auto)]
+
 ghost use Rattle.std.specs.Prelude.{◌≡◌, ℕ, ◌%◌, ◌<◌, ◌≤◌, length, is_ok, Some, None, Ok, MatchBool, slice_index_or};
 ghost use Rattle.chains.specs.Slots.{entered, left};
 ghost use Rattle.queue.specs.Meaning.{Allowed, Idle, Least, Lowest, Offers, cleared, key_of, taken};

@@ -4,6 +4,8 @@
 // above the bound can add. A call takes a value above its limit as the limit, and a cost or a bound above theirs
 // likewise; what comes out is not cut. Each rule promises its meaning and the three laws. This crate knows nothing of
 // halls, queues or jobs.
+#![tactic(auto)]
+
 ghost use Rattle.std.specs.Prelude.{◌≡◌, ℕ, ◌≤◌, min};
 ghost use Rattle.figures.specs.Limits.{value_limit, cost_limit, dwell_limit};
 ghost use Rattle.rules.specs.Laws.{Lawful};

@@ -4,7 +4,7 @@ use Rattle.std.proofs.Common.{◌≡◌, ℕ, suc, ◌+◌, ◌*◌, ◌/◌, �
 use mathlib.Core.List.Memᴰ
 use mathlib.Core.List.{Memᴰ}
 use Rattle.queue.specs.declared.Entry.{Entry}
-use Rattle.queue.specs.Meaning.{Meaning, capacity, key_of, taken, Lowest}
+use Rattle.queue.specs.Meaning.{Meaning, key_of, taken, Lowest}
 use Rattle.walks.specs.Search.{free, holds, Apart, Draws}
 use Rattle.walks.specs.Units.{Tallied, legs_from, settled_count}
 use Rattle.walks.proofs.Places.{clash, same_pair}

@@ -3,7 +3,7 @@
 use Rattle.std.proofs.Common.{◌≡◌, ℕ, ◌+◌, ◌*◌, ◌<◌, ◌≤◌, Bool, true, false, cond, not, ◌&&◌, leb, ◌⊎◌, set, Some, None, sym, refl, ap, inl, inr, arith, length-set}
 use lib.Arith.{digits_lt}
 use Rattle.std.proofs.lemmas.Bool.{leb-true, leb-false}
-use Rattle.queue.specs.Meaning.{capacity, put}
+use Rattle.queue.specs.Meaning.{put}
 use Rattle.walks.specs.Search.{Apart, Offered}
 use Rattle.walks.proofs.Places.{clash, same_pair}
 use Rattle.model.specs.declared.Pair.{Pair}

@@ -88,7 +88,7 @@ module _ (s : JobState) (m : Meaning) (j : Rule) (sized : Sized s.hall) (some : 
   event = record {
     settled = λ u v. elim (whole.others u v) [ inl none ↦ ap value_of none | inr p ↦ ap value_of p.2 ];
     last = λ u v. elim (whole.others u v) [ inl none ↦ ap last_leg none | inr p ↦ ap last_leg p.2 ];
-    own = λ u l. ap noted_key (whole.own_val u l);
+    own = λ u l. ap noted_key (whole.own u l);
     others = λ u v k e. elim (whole.others u v) [
       | inl none ↦ clash (ap noted_key none) e
       | inr p ↦ (p.0, p.1)

@@ -2,7 +2,7 @@
 -- Assumes nothing.
 use Rattle.std.proofs.Common.{◌≡◌, ℕ, suc, ◌*◌, ◌/◌, ◌%◌, List, ◌∷◌, Some, sym, refl, ◌∙◌, arith}
 use Rattle.queue.specs.declared.Entry.{Entry}
-use Rattle.queue.specs.Meaning.{Meaning, capacity, taken, Least}
+use Rattle.queue.specs.Meaning.{Meaning, taken, Least}
 use Rattle.walks.specs.Hall.{Hall}
 use Rattle.walks.specs.Search.{State, free, holds}
 use Rattle.walks.specs.Units.{Spreads, done, tried, settled_item}

@@ -2,6 +2,8 @@
 //
 // The theory is on meanings alone: a job's state, a queue's meaning and a rule's meaning, by the same definitions that
 // the calls' contracts cite.
+#![tactic(auto)]
+
 ghost use Rattle.std.specs.Prelude.{◌≡◌};
 ghost use Rattle.runs.specs.Law.{LawOverRuns};
 

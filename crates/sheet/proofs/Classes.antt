@@ -1,5 +1,5 @@
 -- A byte has one class.
-use Rattle.std.proofs.Common.{◌≡◌, ℕ, ◌≤◌, ◌⊎◌, refl, ⊎_elim, arith}
+use Rattle.std.proofs.Common.{◌≡◌, ℕ, ◌≤◌, refl, ⊎_elim, arith}
 use Rattle.sheet.specs.Steps.{Letter, Classed}
 use Rattle.sheet.specs.declared.steps.Class.{Class}
 use Rattle.sheet.specs.declared.steps.Class.TheVariants.{Figure as OfFigure, Blank as OfBlank, LineEnd as OfLineEnd, Letter as OfLetter, Foreign as OfForeign}

@@ -71,19 +71,19 @@ run_more sheet from to r nz h l f =
     }
 
 -- a figure too many
-pub bad_figures : (c d e : Cursor) → c.place ≡ Field → Passed c.place c d → now e.sheet ≡ now d.sheet → Run (now d.sheet) c.at e.at → FigureNext e true → (get_or (now e.sheet) c.at 0 ≡ 48) ⊎ (e.at - c.at ≡ 5) → BadField (left c)
+pub bad_figures : (c d e : Cursor) → c.place ≡ Field → Passed c.place c d → e.sheet.now ≡ d.sheet.now → Run (d.sheet.now) c.at e.at → FigureNext e true → (get_or (e.sheet.now) c.at 0 ≡ 48) ⊎ (e.at - c.at ≡ 5) → BadField (left c)
 bad_figures c d e p h same run next or =
     let h' : Passed Field c d = subst (λ q. Passed q c d) p h in
-    let s : now e.sheet ≡ now c.sheet = same ∙ h'.1.same in
-    let n : (e.at < length (now c.sheet)) × Figure (get_or (now c.sheet) e.at 0) = subst (λ x. (e.at < length x) × Figure (get_or x e.at 0)) s next in
-    let r : Run (now c.sheet) c.at e.at = subst (λ x. Run x c.at e.at) h'.1.same run in
+    let s : e.sheet.now ≡ c.sheet.now = same ∙ h'.1.same in
+    let n : (e.at < length (c.sheet.now)) × Figure (get_or (c.sheet.now) e.at 0) = subst (λ x. (e.at < length x) × Figure (get_or x e.at 0)) s next in
+    let r : Run (c.sheet.now) c.at e.at = subst (λ x. Run x c.at e.at) h'.1.same run in
     ⊎_elim
-    (λ (z : get_or (now e.sheet) c.at 0 ≡ 48).
-    let z' : get_or (now c.sheet) c.at 0 ≡ 48 = subst (λ x. get_or x c.at 0 ≡ 48) s z in
+    (λ (z : get_or (e.sheet.now) c.at 0 ≡ 48).
+    let z' : get_or (c.sheet.now) c.at 0 ≡ 48 = subst (λ x. get_or x c.at 0 ≡ 48) s z in
     let a : e.at ≡ c.at + 1 = r.plain z' in
-    bad_zero (now c.sheet) c.at (subst (λ i. i < length (now c.sheet)) a n.0) z' (subst (λ i. Figure (get_or (now c.sheet) i 0)) a n.1))
+    bad_zero (c.sheet.now) c.at (subst (λ i. i < length (c.sheet.now)) a n.0) z' (subst (λ i. Figure (get_or (c.sheet.now) i 0)) a n.1))
     (λ (z : e.at - c.at ≡ 5).
     let some = r.some in
     let a : e.at ≡ c.at + 5 = omega arith in
-    bad_six (now c.sheet) c.at (subst (λ i. i < length (now c.sheet)) a n.0) (subst (λ i. (k : ℕ) → c.at ≤ k → k < i → Figure (get_or (now c.sheet) k 0)) a r.each) (subst (λ i. Figure (get_or (now c.sheet) i 0)) a n.1))
+    bad_six (c.sheet.now) c.at (subst (λ i. i < length (c.sheet.now)) a n.0) (subst (λ i. (k : ℕ) → c.at ≤ k → k < i → Figure (get_or (c.sheet.now) k 0)) a r.each) (subst (λ i. Figure (get_or (c.sheet.now) i 0)) a n.1))
     or

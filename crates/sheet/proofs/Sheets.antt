@@ -4,7 +4,7 @@ use Rattle.std.proofs.lemmas.List.{append-nil}
 use Rattle.sheet.specs.Form.{written, Fields}
 use Rattle.sheet.specs.Reading.{Standing, LineRead, more, opening}
 use Rattle.sheet.specs.Whole.{Leg, leg_numbers, leg_line, leg_lines, end_line, start_line, sheet_bytes, LegNumbers, Numbers, Line, lines_from, lines_of, Whole, closes, goes, SheetOf, Once}
-use Rattle.std.specs.List.{AllByRecursion as All}
+use Rattle.std.specs.List.{AllByRecursion}
 use Rattle.sheet.specs.declared.Kind.{Kind}
 use Rattle.sheet.specs.declared.Kind.TheVariants.{Start as start, Leg as leg, End as end}
 
@@ -43,7 +43,7 @@ record Among (s : Standing) : Type 0 where
 -- the legs and the end that are left
 abbrev Left : Standing → List Line → Type 0
 Left s ls =
-    (legs : List Leg) × All LegNumbers legs × (s.rest ≡ leg_lines legs ++ end_line (s.legs + length legs)) × (ls ≡ lines_from legs (s.legs + length legs))
+    (legs : List Leg) × AllByRecursion LegNumbers legs × (s.rest ≡ leg_lines legs ++ end_line (s.legs + length legs)) × (ls ≡ lines_from legs (s.legs + length legs))
 
 among_leg : (s t : Standing) (ks : List ℕ) → Among s → LineRead s leg ks t → Among t
 among_leg s t ks a r =
@@ -124,7 +124,7 @@ whole_sheet bytes s ls h e (goes _ t start ks us r w) = start_left bytes s t ks 
 whole_sheet bytes s ls h e (goes _ t leg ks us r w) = absurd (omega (arith, r.due, ap (λ x. x.lines) e))
 whole_sheet bytes s ls h e (goes _ t end ks us r w) = absurd (omega (arith, r.due, ap (λ x. x.lines) e))
 
-legs_whole : (legs : List Leg) (s : Standing) → Among s → All LegNumbers legs → s.rest ≡ leg_lines legs ++ end_line (s.legs + length legs) → Whole s (lines_from legs (s.legs + length legs))
+legs_whole : (legs : List Leg) (s : Standing) → Among s → AllByRecursion LegNumbers legs → s.rest ≡ leg_lines legs ++ end_line (s.legs + length legs) → Whole s (lines_from legs (s.legs + length legs))
 legs_whole [] s a small b =
     let m = s.legs + 0 in
     let t : Standing = record { rest = []; lines = more s.lines; legs = s.legs; closed = true } in

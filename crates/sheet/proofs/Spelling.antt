@@ -2,7 +2,7 @@
 use Rattle.std.proofs.Common.{◌≡◌, ℕ, ◌+◌, ◌-◌, ◌*◌, ◌%◌, ◌<◌, ◌≤◌, List, ◌++◌, map, length, get_or, take, drop, decimal, sym, refl, ap, ◌∙◌, subst, mod-eq_of_lt, arith, length-drop}
 use native.Mathlib.Nat.{add-mod_right}
 use Rattle.std.specs.Int.{IsInRange}
-use Rattle.std.specs.List.{AllByRecursion as All}
+use Rattle.std.specs.List.{AllByRecursion}
 use Rattle.std.specs.Int.Digits.{number_from_digits, number_from_digits_after}
 use Rattle.std.proofs.lemmas.List.{take_all, length-take-le, get_or-take, get_or-drop, take-append-drop, drop-drop}
 use Rattle.std.proofs.ByRecursion.{All-from_get_or}
@@ -18,9 +18,9 @@ figure_is b h =
     let l : b - 48 < 256 = omega arith in
     ap (λ x. x % 256) e ∙ (add-mod_right (b - 48) 256 ∙ mod-eq_of_lt l)
 
-own : IsNumeralModel (λ ds. All Figure ds) (λ ds. number_from_digits 10 (map figure ds))
+own : IsNumeralModel (λ ds. AllByRecursion Figure ds) (λ ds. number_from_digits 10 (map figure ds))
 own =
-    numerals_by_fold (λ ds. All Figure ds)
+    numerals_by_fold (λ ds. AllByRecursion Figure ds)
     record { empty = tt; parts = λ c cs h. h; more = λ c cs h k. (h, k) }
     (λ n ds. number_from_digits_after 10 n (map figure ds))
     record { empty = λ n. refl; more = λ n c cs h. ap (λ x. number_from_digits_after 10 (n * 10 + x) (map figure cs)) (figure_is c h) }
@@ -39,7 +39,7 @@ pub record Plain (ds : List ℕ) : Type 0 where
   pub small : spelled ds < 100000
 
 -- one to five figures with no leading 0 are a number's figures
-pub plain_figures : (ds : List ℕ) → All Figure ds → 0 < length ds → length ds ≤ 5 → (get_or ds 0 0 ≡ 48 → length ds ≡ 1) → Plain ds
+pub plain_figures : (ds : List ℕ) → AllByRecursion Figure ds → 0 < length ds → length ds ≤ 5 → (get_or ds 0 0 ≡ 48 → length ds ≡ 1) → Plain ds
 plain_figures ds all some five lead =
     let e = spelled_short ds five in
     let v : number_from_digits 10 (map figure ds) < 100000 = digits_value_short own ds 5 all five in

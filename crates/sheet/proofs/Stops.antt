@@ -1,7 +1,7 @@
 -- The fields of a line stop at one place, so that the bytes after a mark are read in one way.
 -- Assumes nothing.
 use Rattle.std.proofs.Common.{◌≡◌, ℕ, zero, suc, ◌+◌, ◌%◌, ◌<◌, ◌≤◌, cond, eqb, List, [], ◌∷◌, ◌++◌, length, get_or, drop, decimal, sym, refl, ap, ◌∙◌, subst, inl, inr, append_assoc, arith}
-use Rattle.std.specs.List.{AllByRecursion as All}
+use Rattle.std.specs.List.{AllByRecursion}
 use Rattle.std.proofs.lemmas.Fmt.{decimal_by_steps, decimal_digit, decimal_nonempty, length-decimal-le, first_decimal, decimal_injective}
 use Rattle.std.proofs.ByRecursion.{All-push}
 use Rattle.sheet.specs.Form.{Begins, Figure, letters, width, field, fields, Fields, written}
@@ -13,16 +13,16 @@ use Rattle.sheet.specs.declared.Kind.TheVariants.{Start, Leg, End}
 abbrev pub Bare : List ℕ → Type 0
 Bare bs = Begins Figure bs → ⊥
 
-figures_of : (k : ℕ) → k < 100000 → All Figure (decimal k)
+figures_of : (k : ℕ) → k < 100000 → AllByRecursion Figure (decimal k)
 figures_of k h =
-    decimal_by_steps (λ n ds. All Figure ds) (λ n l. ((omega arith, omega arith), tt))
+    decimal_by_steps (λ n ds. AllByRecursion Figure ds) (λ n l. ((omega arith, omega arith), tt))
     (λ n ds l a. let m : n % 10 < 10 = omega arith in All-push Figure ds (48 + n % 10) a (omega arith, omega arith)) k (omega arith)
 
 lead_zero : (k : ℕ) → k < 100000 → get_or (decimal k) 0 0 ≡ 48 → length (decimal k) ≡ 1
 lead_zero zero h e = ap length (decimal_digit 0 (omega arith))
 lead_zero (suc k) h e = let f = first_decimal (suc k) (omega arith) (omega arith) in absurd (omega arith)
 
-split : (d e a b : List ℕ) → All Figure d → All Figure e → Bare a → Bare b → d ++ a ≡ e ++ b → (d ≡ e) × (a ≡ b)
+split : (d e a b : List ℕ) → AllByRecursion Figure d → AllByRecursion Figure e → Bare a → Bare b → d ++ a ≡ e ++ b → (d ≡ e) × (a ≡ b)
 split [] [] a b fd fe na nb q = (refl, q)
 split [] (y ∷ e) a b fd fe na nb q = absurd (na (subst (λ l. Begins Figure l) (sym q) fe.0))
 split (x ∷ d) [] a b fd fe na nb q = absurd (nb (subst (λ l. Begins Figure l) q fd.0))
@@ -33,7 +33,7 @@ split (x ∷ d) (y ∷ e) a b fd fe na nb q =
     let w : x ∷ d ≡ y ∷ e = cc in
     (w, r)
 
-begins : (ds more : List ℕ) → All Figure ds → 0 < length ds → Begins Figure (ds ++ more)
+begins : (ds more : List ℕ) → AllByRecursion Figure ds → 0 < length ds → Begins Figure (ds ++ more)
 begins [] more f l = absurd (omega arith)
 begins (x ∷ ds) more f l = f.0
 
@@ -42,7 +42,7 @@ no_lead [] more t d l z n q f = absurd (omega arith)
 no_lead (x ∷ []) more t d l z n q f = let e : more ≡ d ∷ t = cc in n (subst (λ l. Begins Figure l) (sym e) f)
 no_lead (x ∷ y ∷ ds) more t d l z n q f = let e : x ≡ 48 = cc in let k = z e in absurd (omega arith)
 
-no_more : (six ds t more : List ℕ) → All Figure six → length ds < length six → Bare more → six ++ t ≡ ds ++ more → ⊥
+no_more : (six ds t more : List ℕ) → AllByRecursion Figure six → length ds < length six → Bare more → six ++ t ≡ ds ++ more → ⊥
 no_more [] ds t more f l n q = absurd (omega arith)
 no_more (x ∷ six) [] t more f l n q = n (subst (λ l. Begins Figure l) q f.0)
 no_more (x ∷ six) (y ∷ ds) t more f l n q = let e : six ++ t ≡ ds ++ more = cc in no_more six ds t more f.1 (omega arith) n e

@@ -10,7 +10,7 @@
 --   separator     what is due after i fields of a line of w: a blank, or the line end after the last
 use Rattle.std.specs.Prelude.{ℕ, ◌<◌, cond, List, [], ◌∷◌, ◌++◌, decimal, nat_lt}
 use Rattle.std.specs.Int.{IsInRange}
-use Rattle.std.specs.List.{flat_map, AllByRecursion as All}
+use Rattle.std.specs.List.{flat_map, AllByRecursion}
 use Rattle.sheet.specs.declared.Kind.{Kind}
 use Rattle.sheet.specs.declared.Kind.TheVariants.{Start, Leg, End}
 
@@ -38,7 +38,7 @@ abbrev pub fields : List ℕ → List ℕ
 fields ks = flat_map field ks
 
 abbrev pub Fields : List ℕ → Type 0
-Fields ks = All (λ k. k < 100000) ks
+Fields ks = AllByRecursion (λ k. k < 100000) ks
 
 abbrev pub written : Kind → List ℕ → List ℕ
 written kind ks = letters kind ++ (fields ks ++ (10 ∷ []))

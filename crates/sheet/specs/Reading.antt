@@ -14,7 +14,7 @@
 --   Reads         the outcome of one call, and where the reader stands after it
 --   OneOutcome   there is no other outcome, and no other standing after it
 use Rattle.std.specs.Prelude.{◌≡◌, ℕ, ◌+◌, ◌%◌, ◌^◌, ◌<◌, ◌≤◌, Bool, true, false, ◌⊎◌, List, [], ◌∷◌, ◌++◌, length, ◌≢◌}
-use Rattle.std.specs.List.{AllByRecursion as All}
+use Rattle.std.specs.List.{AllByRecursion}
 use Rattle.sheet.specs.Form.{Begins, Figure, letters, width, fields, Fields, written, separator}
 use Rattle.sheet.specs.declared.Kind.{Kind}
 use Rattle.sheet.specs.declared.Kind.TheVariants.{Start, Leg, End}
@@ -72,7 +72,7 @@ abbrev pub BadField : List ℕ → Type 0
 BadField bs =
     (Begins Figure bs → ⊥) ⊎
     (((d : ℕ) × (tail : List ℕ) × (bs ≡ 48 ∷ d ∷ tail) × Figure d) ⊎
-    ((six tail : List ℕ) × (bs ≡ six ++ tail) × (length six ≡ 6) × All Figure six))
+    ((six tail : List ℕ) × (bs ≡ six ++ tail) × (length six ≡ 6) × AllByRecursion Figure six))
 
 abbrev pub Unseparated : ℕ → ℕ → List ℕ → Type 0
 Unseparated w i tail = (Begins (λ b. b ≡ separator w i) tail → ⊥) × (0 < i → Begins Figure tail → ⊥)

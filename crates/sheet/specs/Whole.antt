@@ -7,7 +7,7 @@
 --   Whole s ls    read on from where s stands, record after record with no fault: the lines ls, and then the close
 --   Once          a reading is whole just where the bytes are those of a sheet, and it gives the lines of that sheet
 use Rattle.std.specs.Prelude.{◌≡◌, ℕ, ◌<◌, ◌≤◌, List, [], ◌∷◌, ◌++◌, map, length}
-use Rattle.std.specs.List.{flat_map, AllByRecursion as All}
+use Rattle.std.specs.List.{flat_map, AllByRecursion}
 use Rattle.sheet.specs.Form.{written}
 use Rattle.sheet.specs.Reading.{Standing, Reads, line, close, opening}
 use Rattle.sheet.specs.declared.Kind.{Kind}
@@ -40,7 +40,7 @@ abbrev pub LegNumbers : Leg → Type 0
 LegNumbers l = (l.from < 100000) × (l.to < 100000) × (l.cost < 100000)
 
 abbrev pub Numbers : ℕ → ℕ → List Leg → Type 0
-Numbers n c legs = (n < 100000) × (c < 100000) × All LegNumbers legs
+Numbers n c legs = (n < 100000) × (c < 100000) × AllByRecursion LegNumbers legs
 
 abbrev pub Line : Type 0
 Line = Kind × List ℕ

@@ -3,6 +3,7 @@
 // A sheet is lines of a two-letter mark and fields, each after one blank: `ST points bound`, then `LG from to cost`
 // lines, then `EN count`. It promises the next record or the one fault of form that is due. The reader knows the form of
 // a sheet and nothing of what its numbers mean, and only lends out parts of the sheet.
+#![tactic(auto)]
 
 ghost use Rattle.std.specs.Prelude.{◌≡◌};
 ghost use Rattle.sheet.specs.Numbers.{form_number, spelled};

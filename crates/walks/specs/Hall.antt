@@ -4,7 +4,7 @@
 --   Leads    leg i runs from v to w at cost k
 --   Sized    the legs run between points of the hall, and no cost is above the bound
 --   Walk     a walk from u to v, its value and its route: the leg numbers in travel order
-use Rattle.std.specs.Prelude.{◌≡◌, ℕ, ◌+◌, ◌<◌, ◌≤◌, List, [], ◌∷◌, ◌++◌, length, slice_index_or}
+use Rattle.std.specs.Prelude.{◌≡◌, ℕ, ◌<◌, ◌≤◌, List, [], ◌∷◌, ◌++◌, length, slice_index_or}
 use Rattle.figures.specs.Limits.{cost_limit}
 pub use Rattle.rules.specs.Laws.{Lawful}
 

@@ -2,6 +2,8 @@
 //
 // It speaks of halls, walks and states of a search, and of no program, queue or byte. `search_stands` has all of its
 // theorems in its contract; each function below it stands for some of them, and answers 0.
+#![tactic(auto)]
+
 ghost use Rattle.walks.specs.Laws.{FrontIsKept, SettledStand, EntriesAtRest, Bounded, RoutesStand};
 ghost use Rattle.walks.specs.Units.{CountsStand, TallyIsKept, UnitsSettle};
 ghost use Rattle.walks.specs.Table.{TablesStand};

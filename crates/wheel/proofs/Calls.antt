@@ -1,15 +1,15 @@
 -- Lemmas on a sound wheel's answers, for its calls as a queue.
-use Rattle.std.proofs.Common.{◌≡◌, ℕ, zero, suc, ◌+◌, ◌-◌, ◌*◌, ◌/◌, ◌%◌, ◌^◌, ◌<◌, ◌≤◌, min, ◌⊎◌, List, [], ◌∷◌, length, get_or, set, replicate, IfErr, Some, None, Ok, Err, Option, Result, sym, refl, ap, ◌∙◌, subst, inl, inr, ⊎_elim, mod-eq_of_lt, add-mul, zero-mul, arith}
+use Rattle.std.proofs.Common.{◌≡◌, ℕ, ◌+◌, ◌*◌, ◌/◌, ◌^◌, ◌<◌, ◌≤◌, min, length, get_or, set, replicate, IfErr, Some, None, Ok, Err, Result, sym, refl, ap, ◌∙◌, subst, ⊎_elim, add-mul, zero-mul, arith}
 use Rattle.std.proofs.lemmas.Bool.{cases_lt}
-use Rattle.figures.specs.Limits.{value_limit, cell_limit}
+use Rattle.figures.specs.Limits.{cell_limit}
 use Rattle.queue.specs.declared.Entry.{Entry}
 use Rattle.queue.specs.declared.TakeRefusal.{TakeRefusal}
 use Rattle.queue.specs.declared.TakeRefusal.TheVariants.{NotWaiting, NotLeast}
-use Rattle.queue.specs.Meaning.{Meaning, key_of, capacity, held, waiting, cleared, put, taken, Least, Lowest, Banded, Takes}
+use Rattle.queue.specs.Meaning.{Meaning, key_of, capacity, held, waiting, cleared, taken, Least, Lowest, Banded, Takes}
 use Rattle.wheel.specs.declared.rim.Rim.{Rim}
-use Rattle.wheel.specs.Joined.{either_key, joined, wheel_meaning, Agree}
+use Rattle.wheel.specs.Joined.{either_key, wheel_meaning, Agree}
 use Rattle.wheel.specs.Rims.{rim_keys, rim_least, RimSound, Becomes}
-use Rattle.wheel.specs.Wheels.{base, whole, wheel_named, WheelSound, Due, Figures, Fresh}
+use Rattle.wheel.specs.Wheels.{base, whole, WheelSound, Due, Figures, Fresh}
 use Rattle.queue.proofs.Meanings.{held_most, none_in_replicate}
 use Rattle.chains.proofs.Threads.{none_some, same_some}
 use Rattle.chains.proofs.Slots.{some_lt}

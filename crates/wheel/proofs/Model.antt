@@ -1,13 +1,12 @@
 -- Lemmas on a wheel's rows and the queue below: what the wheel means, and how each call changes that.
-use Rattle.std.proofs.Common.{◌≡◌, ℕ, zero, suc, ◌+◌, ◌-◌, ◌*◌, ◌<◌, ◌≤◌, ◌≢◌, ◌⊎◌, List, [], ◌∷◌, length, get_or, set, replicate, Some, None, Option, sym, refl, ap, ◌∙◌, subst, inl, inr, ⊎_elim, arith, length-set}
-use native.Mathlib.Decide.{dec_lt}
+use Rattle.std.proofs.Common.{◌≡◌, ℕ, ◌+◌, ◌-◌, ◌*◌, ◌<◌, ◌≤◌, ◌≢◌, ◌⊎◌, List, length, get_or, set, replicate, Some, None, Option, sym, refl, ap, ◌∙◌, subst, inl, inr, ⊎_elim, arith, length-set}
 use lib.ListN.{length-replicate}
-use Rattle.std.proofs.lemmas.List.{get_or_past, set-get_or, set-set, get_or-set_same, get_or-set_other, ext_get_or, get_or-replicate}
-use Rattle.std.proofs.lemmas.Bool.{cases_eq, cases_lt}
+use Rattle.std.proofs.lemmas.List.{set-get_or, get_or-set_same, get_or-set_other, ext_get_or}
+use Rattle.std.proofs.lemmas.Bool.{cases_eq}
 use Rattle.figures.specs.Limits.{value_limit}
 use Rattle.queue.specs.declared.Entry.{Entry}
-use Rattle.queue.specs.Meaning.{Meaning, key_of, capacity, cleared, put, taken, Lowest, Least, Banded}
-use Rattle.wheel.specs.Joined.{shifted, either_key, joined, wheel_meaning, Agree}
+use Rattle.queue.specs.Meaning.{Meaning, key_of, capacity, cleared, put, taken, Least, Banded}
+use Rattle.wheel.specs.Joined.{either_key, joined, wheel_meaning, Agree}
 use Rattle.queue.proofs.Meanings.{none_in_replicate}
 use Rattle.chains.proofs.Threads.{none_some}
 use Rattle.chains.proofs.Slots.{some_lt}

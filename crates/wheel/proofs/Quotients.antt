@@ -1,5 +1,5 @@
 -- Lemmas on keys, the numbers of their compartments, and the places of these in the table.
-use Rattle.std.proofs.Common.{◌≡◌, ℕ, zero, suc, ◌+◌, ◌-◌, ◌*◌, ◌/◌, ◌%◌, ◌<◌, ◌≤◌, sym, refl, ap, ◌∙◌, subst, ⊎_elim, mul-le-mul_right, add-mul, one-mul, mul-zero, div-mul-le_self, arith}
+use Rattle.std.proofs.Common.{◌≡◌, ℕ, ◌+◌, ◌*◌, ◌/◌, ◌%◌, ◌<◌, ◌≤◌, ap, ◌∙◌, ⊎_elim, mul-le-mul_right, add-mul, one-mul, div-mul-le_self, arith}
 use native.Mathlib.Nat.{div-eq_of_lt-le, lt-div-mul-add, div-zero}
 use Rattle.std.proofs.lemmas.Bool.{cases_lt}
 

@@ -1,13 +1,13 @@
 -- Lemmas on a rim: what keeps it sound, and what it names.
-use Rattle.std.proofs.Common.{◌≡◌, ℕ, zero, suc, ◌+◌, ◌-◌, ◌*◌, ◌/◌, ◌%◌, ◌^◌, ◌<◌, ◌≤◌, Bool, true, false, cond, eqb, ltb, ◌≢◌, ◌⊎◌, List, [], ◌∷◌, map, length, get_or, set, replicate, Some, None, vec_items, vec_len, Option, sym, refl, ap, ◌∙◌, subst, inl, inr, ⊎_elim, mod-lt, arith}
+use Rattle.std.proofs.Common.{◌≡◌, ℕ, zero, suc, ◌+◌, ◌-◌, ◌/◌, ◌%◌, ◌^◌, ◌<◌, ◌≤◌, eqb, ltb, List, [], ◌∷◌, map, length, get_or, set, replicate, Some, None, vec_items, vec_len, Option, sym, refl, ap, ◌∙◌, subst, inl, ⊎_elim, mod-lt, arith}
 use Rattle.std.specs.Vec.{with_item, with_items}
 use Rattle.std.proofs.lemmas.List.{get_or_past, get_or-map, map-set, set-get_or, with_items_is, get_or-set_same, get_or-set_other, get_or-replicate, length-map, length-replicate, length-set}
 use Rattle.std.proofs.lemmas.Bool.{cases_eq, cases_lt, cond_both, eqb-true, eqb-false, ltb-true, ltb-false}
 use Rattle.chains.specs.declared.Chain.{Chain}
 use Rattle.chains.specs.Links.{fronted, fronted_prevs, unlinked, unlinked_nexts, unlinked_prevs}
 use Rattle.chains.specs.Threads.{Mem, Chained, without}
-use Rattle.chains.specs.Slots.{Rows, Slotted, entered, left, more, fewer}
-use Rattle.chains.proofs.Threads.{length_without, none_some}
+use Rattle.chains.specs.Slots.{Slotted, entered, left, more, fewer}
+use Rattle.chains.proofs.Threads.{length_without}
 use Rattle.chains.proofs.Slots.{slotted_none, slot_empty, slot_first, slotted_entered, slotted_left, slot_length, some_lt}
 use Rattle.queue.specs.declared.Entry.{Entry}
 use Rattle.queue.specs.Meaning.{held, Least}
@@ -18,7 +18,7 @@ use Rattle.wheel.specs.declared.rim.Rim.{Rim}
 use Rattle.wheel.specs.Later.{first_held, nearer, scan}
 use Rattle.wheel.specs.Rims.{blank, vacant, cell_key, cell_next, cell_prev, rim_keys, rim_nexts, rim_prevs, rim_firsts, rim_counts, rim_rows, place_of, least_at, rim_least, RimSound, Lies, Becomes}
 use Rattle.wheel.specs.Banded.{none_read}
-use Rattle.wheel.proofs.Rows.{held_none, none_anywhere}
+use Rattle.wheel.proofs.Rows.{held_none}
 use Rattle.wheel.proofs.Quotients.{same_place, quotient_lt}
 use Rattle.wheel.proofs.Seek.{Sought, First, sought}
 

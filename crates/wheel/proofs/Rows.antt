@@ -1,10 +1,10 @@
 -- Lemmas on rows of keys: what `joined` reads, how it changes, and how many it holds.
-use Rattle.std.proofs.Common.{◌≡◌, ℕ, zero, suc, ◌+◌, ◌-◌, ◌*◌, ◌<◌, ◌≤◌, ◌≢◌, List, [], ◌∷◌, length, get_or, set, replicate, Some, None, Option, sym, refl, ap, ◌∙◌, subst, add-zero, add-suc, zero-add, arith}
-use Rattle.queue.specs.Meaning.{held, one_if}
+use Rattle.std.proofs.Common.{◌≡◌, ℕ, zero, suc, ◌+◌, ◌<◌, List, [], ◌∷◌, length, get_or, set, Some, None, Option, sym, refl, ap, subst, arith}
+use Rattle.queue.specs.Meaning.{held}
 use Rattle.queue.proofs.Meanings.{none_held, none_in_replicate}
 use Rattle.chains.proofs.Threads.{none_some}
 use Rattle.wheel.specs.Banded.{none_read}
-use Rattle.wheel.specs.Joined.{shifted, either_key, joined}
+use Rattle.wheel.specs.Joined.{either_key, joined}
 
 -- a write to both rows at one place is a write to the joined row
 pub joined_set : (base : ℕ) (ks bs : List (Option ℕ)) (i : ℕ) (k b : Option ℕ) → i < length bs

@@ -1,9 +1,8 @@
 -- Lemmas on a wheel whose items are placed and dealt: what each step of that keeps.
-use Rattle.std.proofs.Common.{◌≡◌, ℕ, zero, suc, ◌+◌, ◌-◌, ◌*◌, ◌/◌, ◌%◌, ◌<◌, ◌≤◌, Bool, true, false, ◌≢◌, ◌⊎◌, List, [], ◌∷◌, length, get_or, set, replicate, Some, None, Option, sym, refl, ap, ◌∙◌, subst, inl, inr, ⊎_elim, mul-le-mul_right, add-mul, one-mul, arith}
+use Rattle.std.proofs.Common.{◌≡◌, ℕ, ◌+◌, ◌-◌, ◌*◌, ◌/◌, ◌%◌, ◌<◌, ◌≤◌, true, false, List, length, get_or, set, Some, None, Option, sym, refl, ap, ◌∙◌, subst, ⊎_elim, mul-le-mul_right, add-mul, one-mul, arith}
 use Rattle.std.proofs.lemmas.List.{set-get_or, set-set, get_or-set_same, length-set}
 use Rattle.std.proofs.lemmas.Bool.{cases_eq, cases_lt}
-use Rattle.figures.specs.Limits.{value_limit}
-use Rattle.queue.specs.Meaning.{Meaning, key_of, capacity, held, cleared, put, Allowed}
+use Rattle.queue.specs.Meaning.{Meaning, key_of, held, cleared, put, Allowed}
 use Rattle.wheel.specs.declared.rim.Rim.{Rim}
 use Rattle.wheel.specs.Joined.{joined, wheel_meaning, Agree}
 use Rattle.wheel.specs.Rims.{rim_keys, place_of, RimSound, Lies, Becomes}
@@ -13,7 +12,7 @@ use Rattle.chains.proofs.Threads.{none_some}
 use Rattle.chains.proofs.Slots.{some_lt}
 use Rattle.wheel.specs.Banded.{length_joined, none_read, from_rim, from_below}
 use Rattle.wheel.proofs.Rows.{none_anywhere}
-use Rattle.wheel.proofs.Quotients.{same_place, quotient_low, quotient_high, quotient_from, quotient_is}
+use Rattle.wheel.proofs.Quotients.{same_place, quotient_low, quotient_high, quotient_from}
 use Rattle.wheel.proofs.Model.{set_read, put_below, agree_below, put_later, agree_later, turned, agree_turned, agree_from}
 
 -- a rim with other keys and the same width

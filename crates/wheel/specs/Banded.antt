@@ -2,11 +2,10 @@
 --   key_of_wheel  what the wheel answers of an item
 --   splits        where a waiting item waits
 --   whole_banded  the proof
-use Rattle.std.specs.Prelude.{◌≡◌, ℕ, zero, suc, ◌+◌, ◌*◌, ◌<◌, ◌≤◌, ◌⊎◌, List, [], ◌∷◌, length, get_or, Some, None, Option, ◌≢◌, slice_index_or, refl}
-use Rattle.std.proofs.Common.{sym, ap, subst, ◌∙◌, inl, inr, ⊎_elim, arith}
+use Rattle.std.specs.Prelude.{◌≡◌, ℕ, zero, suc, ◌+◌, ◌<◌, ◌≤◌, ◌⊎◌, List, [], ◌∷◌, length, get_or, Some, None, Option, ◌≢◌, slice_index_or, refl}
+use Rattle.std.proofs.Common.{ap, inl, inr, ⊎_elim, arith}
 use Rattle.std.proofs.lemmas.List.{get_or_past}
 use Rattle.std.proofs.lemmas.Bool.{cases_lt}
-use Rattle.figures.specs.Limits.{value_limit}
 use Rattle.chains.proofs.Threads.{none_some, same_some}
 use Rattle.chains.proofs.Slots.{some_lt}
 use Rattle.queue.specs.Meaning.{Meaning, key_of, Banded}

@@ -2,7 +2,7 @@
 --   first_held  the first compartment after number q that holds something, looking at the next n of the 64
 --   nearer      the nearer of an entry and the item read next, the first where their keys are equal
 --   scan        the nearest item along a chain's links, at most n of them
-use Rattle.std.specs.Prelude.{ℕ, zero, suc, ◌+◌, ◌%◌, Bool, true, false, cond, List, Some, None, Option, nat_lt, slice_index, slice_index_or}
+use Rattle.std.specs.Prelude.{ℕ, zero, suc, ◌%◌, cond, List, Some, None, Option, nat_lt, slice_index, slice_index_or}
 use Rattle.queue.specs.declared.Entry.{Entry}
 
 unfoldable pub first_held : List ℕ → ℕ → ℕ → Option ℕ

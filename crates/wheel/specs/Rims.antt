@@ -9,7 +9,7 @@
 --   rim_least   the entry that the rim names after compartment number q
 --   RimSound   each chain holds exactly the items whose keys fall into its compartment, and the counts are right
 --   Becomes     a rim of the same width, sound, with the given keys
-use Rattle.std.specs.Prelude.{◌≡◌, ℕ, ◌/◌, ◌%◌, ◌<◌, ◌≤◌, List, map, length, Some, None, vec_items, vec_len, Option, ◌≢◌, slice_index, slice_index_or}
+use Rattle.std.specs.Prelude.{◌≡◌, ℕ, ◌/◌, ◌%◌, ◌<◌, List, map, length, Some, None, vec_items, vec_len, Option, ◌≢◌, slice_index, slice_index_or}
 use Rattle.chains.specs.Slots.{Rows, Slotted}
 use Rattle.queue.specs.declared.Entry.{Entry}
 use Rattle.queue.specs.Meaning.{held}

@@ -9,7 +9,7 @@
 --   Dealing     while a compartment's items are dealt below; Deals is what the next of them does
 --   Due         when a later compartment may become current; Turned is what happens then
 --   Placed      what happens to an item that is offered an allowed key
-use Rattle.std.specs.Prelude.{◌≡◌, ℕ, ◌+◌, ◌-◌, ◌*◌, ◌<◌, ◌≤◌, min, Bool, true, false, List, length, replicate, Some, None, Ok, Err, Option, Result, slice_index_or, slice_set}
+use Rattle.std.specs.Prelude.{◌≡◌, ℕ, ◌+◌, ◌-◌, ◌*◌, ◌<◌, ◌≤◌, min, Bool, true, false, length, replicate, Some, None, Ok, Err, Option, Result, slice_index_or, slice_set}
 use Rattle.figures.specs.Limits.{width_limit, cell_limit, value_limit}
 use Rattle.figures.specs.declared.OutOfRange.{OutOfRange}
 use Rattle.queue.specs.declared.Entry.{Entry}

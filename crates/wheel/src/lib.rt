@@ -6,6 +6,8 @@
 // the compartment's items are dealt below, and then the item is taken there. A question deals nothing. It promises the
 // meaning of a queue on any queue that keeps it, uses that queue by the calls of `Queue` alone, and knows nothing of halls
 // or jobs.
+#![tactic(auto)]
+
 ghost use Rattle.std.specs.Prelude.{◌≡◌, ℕ, ◌^◌, ◌<◌, true, false, Some, None, MatchResult, slice_index_or};
 ghost use Rattle.queue.specs.Meaning.{Meaning, capacity, waiting, key_of, cleared, Least, Lowest, Takes};
 ghost use Rattle.wheel.specs.Banded.{whole_banded};

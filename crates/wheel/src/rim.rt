@@ -6,9 +6,9 @@ ghost use Rattle.std.specs.Prelude.{◌≡◌, ℕ, ◌+◌, ◌/◌, ◌%◌, �
 ghost use Rattle.std.specs.Borrow.{sem, follows};
 ghost use Rattle.std.specs.Vec.{with_item};
 ghost use Rattle.chains.specs.Links.{fronted, fronted_prevs, unlinked, unlinked_nexts, unlinked_prevs};
-ghost use Rattle.wheel.specs.contracts.rim.Rim.{the_row as rim-row};
-ghost use Rattle.wheel.specs.contracts.rim.Compartment.{the_row as compartment-row};
-ghost use Rattle.wheel.specs.Later.{first_held, nearer as the-nearer};
+ghost use Rattle.wheel.specs.contracts.rim.Rim.{the_row as rim_row};
+ghost use Rattle.wheel.specs.contracts.rim.Compartment.{the_row as compartment_row};
+ghost use Rattle.wheel.specs.Later.{first_held, nearer as the_nearer};
 ghost use Rattle.wheel.specs.Rims.{blank, vacant, cell_key, cell_next, cell_prev, rim_keys, rim_counts, rim_least, least_at, RimSound, Becomes, Lies};
 
 use chains::{Chain, DoublyLinked, Linked};
@@ -195,7 +195,7 @@ impl Rim {
     // The compartment at a place of the table, to be changed.
     fn compartment(&mut self, place: usize) -> &mut Compartment
         requires { place < vec_len self.old.table }
-        ensures* after { sem 𝓛 (follows rim-row compartment-row self.entry.ghost_name result.ghost_name (λ w. record { width = self.old.width; later = self.old.later; cells = self.old.cells; table = with_item self.old.table place w })) }
+        ensures* after { sem 𝓛 (follows rim_row compartment_row self.entry.ghost_name result.ghost_name (λ w. record { width = self.old.width; later = self.old.later; cells = self.old.cells; table = with_item self.old.table place w })) }
         ensures value { result.now ≡ slice_index_or self.old.table.items place result.now }
     {
         &mut self.table[place]
@@ -310,7 +310,7 @@ impl Rim {
 
 // The nearer of an entry and an item that waits at this key, the first where their keys are equal.
 fn nearer(best: Option<Entry>, item: usize, key: Option<u32>) -> Option<Entry>
-    ensures { result ≡ the-nearer best item key }
+    ensures { result ≡ the_nearer best item key }
 {
     let Some(key) = key else {
         return best;

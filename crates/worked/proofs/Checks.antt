@@ -1,7 +1,7 @@
 -- A test that can be computed of each case, and that a case that passes it holds.
 -- Assumes nothing.
 use Rattle.std.proofs.Common.{◌≡◌, ℕ, zero, suc, ◌/◌, ◌%◌, ◌<◌, Bool, true, false, cond, not, ◌&&◌, eqb, ltb, leb, List, [], ◌∷◌, is_some, Some, None, Option, refl, ap, arith}
-use Rattle.std.specs.List.{AllByRecursion as All}
+use Rattle.std.specs.List.{AllByRecursion}
 use Rattle.std.proofs.lemmas.Bool.{both_ways, and_parts, eqb-true, leb-true, ltb-true, not-true}
 use Rattle.model.specs.declared.Answer.TheVariants.{Value, NoWay, NotYet}
 use Rattle.model.specs.State.{JobState, is_finished, pair_at, value_of, settled_in}
@@ -80,7 +80,7 @@ abbrev all_pass : List Case → Bool
 all_pass [] = true
 all_pass (c ∷ cs) = all_of (tests c) && all_pass cs
 
-each_of : (bs : List Bool) → all_of bs ≡ true → All (λ b. b ≡ true) bs
+each_of : (bs : List Bool) → all_of bs ≡ true → AllByRecursion (λ b. b ≡ true) bs
 each_of [] e = tt
 each_of (b ∷ bs) e = let (here, rest) = and_parts b (all_of bs) e in (here, each_of bs rest)
 
@@ -119,7 +119,7 @@ some_passes test (suc n) l = by (test n) refl l (some_passes test n)
     by true e l rest = (n, e)
     by false e l rest = rest l
 
-checked : (c : Case) → All (λ b. b ≡ true) (tests c) → Holds c
+checked : (c : Case) → AllByRecursion (λ b. b ≡ true) (tests c) → Holds c
 unfolding ended begun after grant worked_on
 checked (settles by u v x r) (lawful, (ok, (over, (value, (one, more))))) =
     settling by (after by lawful (none_so _ ok) 16 (omega arith)) over u v x r (number_same (value_by by u v) (Some x) value)
@@ -142,12 +142,12 @@ checked (tries q a) (e, more) = rw (← (number_same (answer (passes q)) a e)) (
 checked (opens n c by q a) (e, more) = rw (← (number_same (open_answer n c by q) a e)) (starting n c by q)
 checked (offers slots f k a) (e, more) = rw (← (number_same (offer_answer slots f k) a e)) (offering slots f k)
 
-all_checked : (cs : List Case) → all_pass cs ≡ true → All Holds cs
+all_checked : (cs : List Case) → all_pass cs ≡ true → AllByRecursion Holds cs
 all_checked [] e = tt
 all_checked (c ∷ cs) e =
     let (here, rest) = and_parts (all_of (tests c)) (all_pass cs) e in
     (checked c (each_of (tests c) here), all_checked cs rest)
 
-pub all_hold : All Holds cases
+pub all_hold : AllByRecursion Holds cases
 unfolding units ended
 all_hold = all_checked cases refl

@@ -16,7 +16,7 @@ returns-in-Some g c =
     let nexts = map g.T.Linked.link c.args.elements.now in
     let prevs = map g.T.Linked.back c.args.elements.now in
     let l : c.args.i < length nexts = simp length-map c.if-i-elements.true in
-    ap (λ p. bypassed p (get_or nexts c.args.i None) c.args.head) (sym c.in-Some.is ∙ c.prev-at.ensures)
+    ap (λ p. bypassed p (get_or nexts c.args.i None) c.args.head) (sym c.in-Some.is ∙ c.prev_at.ensures)
     ∙ unlinked_in nexts prevs c.args.i c.args.head l
 
 pub returns-in-None : goal.returns-in-None
@@ -24,6 +24,6 @@ returns-in-None g c =
     let nexts = map g.T.Linked.link c.args.elements.now in
     let prevs = map g.T.Linked.back c.args.elements.now in
     let l : c.args.i < length nexts = simp length-map c.if-i-elements.true in
-    c.next-at.ensures
-    ∙ (ap (λ p. bypassed p (get_or nexts c.args.i None) c.args.head) (sym c.in-None.is ∙ c.prev-at.ensures)
+    c.next_at.ensures
+    ∙ (ap (λ p. bypassed p (get_or nexts c.args.i None) c.args.head) (sym c.in-None.is ∙ c.prev_at.ensures)
     ∙ unlinked_in nexts prevs c.args.i c.args.head l)

@@ -8,10 +8,10 @@ returns-then-i-elements g c =
     let prevs = map g.T.Linked.back c.args.elements.now in
     let l : c.args.i < length prevs = simp length-map c.if-i-elements.true in
     record {
-      after = c.link-prev-then-i-elements.ensures.after
-          ∙ (ap (λ row. set row c.args.i None) c.link-prev.ensures.after ∙ fronted_prevs_in prevs c.args.i c.args.head l);
-      keeps = c.link-prev-then-i-elements.ensures.keeps ∙ c.link-prev.ensures.keeps;
-      same = c.link-prev-then-i-elements.ensures.same ∙ c.link-prev.ensures.same;
+      after = c.link_prev-then-i-elements.ensures.after
+          ∙ (ap (λ row. set row c.args.i None) c.link_prev.ensures.after ∙ fronted_prevs_in prevs c.args.i c.args.head l);
+      keeps = c.link_prev-then-i-elements.ensures.keeps ∙ c.link_prev.ensures.keeps;
+      same = c.link_prev-then-i-elements.ensures.same ∙ c.link_prev.ensures.same;
     }
 
 pub returns-else-i-elements : goal.returns-else-i-elements

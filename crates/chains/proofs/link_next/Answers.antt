@@ -5,10 +5,10 @@ use Rattle.chains.proofs.link_next.Goals as goal
 
 pub returns-then-i-elements : goal.returns-then-i-elements
 returns-then-i-elements g c = record {
-  after = row_put g.T.Linked.link c.args.elements.now c.in-Some.i c.set-next.new.self c.args.at c.args.next
-      c.in-Some.is c.set-next.ensures.after;
-  keeps = map-set_same g.T.Linked.back c.args.elements.now c.in-Some.i c.set-next.new.self c.index-elements-i.result c.set-next.ensures.keeps;
-  same = map-set_same g.T.Linked.bare c.args.elements.now c.in-Some.i c.set-next.new.self c.index-elements-i.result c.set-next.ensures.same;
+  after = row_put g.T.Linked.link c.args.elements.now c.in-Some.i c.set_next.new.self c.args.at c.args.next
+      c.in-Some.is c.set_next.ensures.after;
+  keeps = map-set_same g.T.Linked.back c.args.elements.now c.in-Some.i c.set_next.new.self c.index-elements-i.result c.set_next.ensures.keeps;
+  same = map-set_same g.T.Linked.bare c.args.elements.now c.in-Some.i c.set_next.new.self c.index-elements-i.result c.set_next.ensures.same;
 }
 
 pub returns-else-i-elements : goal.returns-else-i-elements

@@ -5,10 +5,10 @@ use Rattle.chains.proofs.link_prev.Goals as goal
 
 pub returns-then-i-elements : goal.returns-then-i-elements
 returns-then-i-elements g c = record {
-  after = row_put g.T.Linked.back c.args.elements.now c.in-Some.i c.set-prev.new.self c.args.at c.args.prev
-      c.in-Some.is c.set-prev.ensures.after;
-  keeps = map-set_same g.T.Linked.link c.args.elements.now c.in-Some.i c.set-prev.new.self c.index-elements-i.result c.set-prev.ensures.keeps;
-  same = map-set_same g.T.Linked.bare c.args.elements.now c.in-Some.i c.set-prev.new.self c.index-elements-i.result c.set-prev.ensures.same;
+  after = row_put g.T.Linked.back c.args.elements.now c.in-Some.i c.set_prev.new.self c.args.at c.args.prev
+      c.in-Some.is c.set_prev.ensures.after;
+  keeps = map-set_same g.T.Linked.link c.args.elements.now c.in-Some.i c.set_prev.new.self c.index-elements-i.result c.set_prev.ensures.keeps;
+  same = map-set_same g.T.Linked.bare c.args.elements.now c.in-Some.i c.set_prev.new.self c.index-elements-i.result c.set_prev.ensures.same;
 }
 
 pub returns-else-i-elements : goal.returns-else-i-elements

@@ -22,6 +22,6 @@ returns-in-Err-lay c =
     let line : LineRead (standing c.args.reader.now) Leg (c.value.result ∷ c.value-in-Leg.result ∷ c.value-in-Leg-2.result ∷ []) (standing c.record.new.self) = search rules in
     record {
       cases = leg_refused (standing c.args.reader.now) (standing c.record.new.self) (state_of c.args.job.now) (state_of c.lay.new.self)
-          c.value.result c.value-in-Leg.result c.value-in-Leg-2.result line c.in-Err-lay.refusal c.by-numbers.result c.in-Err-lay.ensures.cases
-          (c.by-numbers.ensures.value ∙ ap (λ n. fault (refusal_number c.in-Err-lay.refusal) n Job) c.line.ensures.value);
+          c.value.result c.value-in-Leg.result c.value-in-Leg-2.result line c.in-Err-lay.refusal c.by_numbers.result c.in-Err-lay.ensures.cases
+          (c.by_numbers.ensures.value ∙ ap (λ n. fault (refusal_number c.in-Err-lay.refusal) n Job) c.line.ensures.value);
     }

@@ -1,4 +1,4 @@
-use Rattle.std.proofs.Common.{◌≡◌, length, arith, rules}
+use Rattle.std.proofs.Common.{◌≡◌, length, rules}
 use Rattle.listing.specs.Listing.{listing}
 use Rattle.listing.proofs.Buffer.{filled}
 use Rattle.listing.proofs.bytes.Goals as goal
@@ -6,10 +6,9 @@ use Rattle.listing.proofs.bytes.Goals as goal
 pub returns : goal.returns
 returns g c =
     let text = listing (g.T.Table.size c.args.table.now) (g.T.Table.cell c.args.table.now) in
-    let made = c.in-ok-bytes.ensures.made in
-    let len : c.in-ok-bytes.bytes.len ≡ length text = search rules in
-    let size : length c.as-mut-slice.result.now ≡ length text = search rules in
+    let len : c.in_ok-bytes.bytes.len ≡ length text = search rules in
+    let size : length c.as_mut_slice.result.now ≡ length text = search rules in
     record {
-      made = filled text c.as-mut-slice.result.now c.put-listing.new.buffer c.in-ok-bytes.bytes.items c.in-ok-bytes.bytes.len
-          c.put-listing.ensures.after size len;
+      made = filled text c.as_mut_slice.result.now c.put_listing.new.buffer c.in_ok-bytes.bytes.items c.in_ok-bytes.bytes.len
+          c.put_listing.ensures.after size len;
     }

@@ -3,8 +3,8 @@ use Rattle.std.proofs.lemmas.Fmt.{decimal_digit, length-decimal-le}
 use Rattle.listing.proofs.Decimal.{length_decimal_step}
 use Rattle.listing.proofs.figures.Goals as goal
 
-pub overflow-add-count : goal.overflow-add-count
-overflow-add-count c = omega (arith, length-decimal-le 10 c.args.n (omega arith) (omega arith) (omega arith))
+pub overflow_add-count : goal.overflow_add-count
+overflow_add-count c = omega (arith, length-decimal-le 10 c.args.n (omega arith) (omega arith) (omega arith))
 
 pub loop-front-preserved : goal.loop-front-preserved
 loop-front-preserved c =

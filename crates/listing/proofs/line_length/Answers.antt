@@ -8,11 +8,11 @@ short : (c : goal.After-figures) → c.loop-n.len + (1 + c.figures.result) ≤ 3
 short c =
     omega (arith, fields_room c.args.numbers.now c.loop-n.n-index c.loop-n-test.true, fields_le c.args.numbers.now)
 
-pub overflow-add-len : goal.overflow-add-len
-overflow-add-len c = omega (arith, short c)
+pub overflow_add-len : goal.overflow_add-len
+overflow_add-len c = omega (arith, short c)
 
-pub overflow-add-len-in-loop-n : goal.overflow-add-len-in-loop-n
-overflow-add-len-in-loop-n c = omega (arith, short c)
+pub overflow_add-len-in-loop-n : goal.overflow_add-len-in-loop-n
+overflow_add-len-in-loop-n c = omega (arith, short c)
 
 pub loop-n-preserved : goal.loop-n-preserved
 loop-n-preserved c =

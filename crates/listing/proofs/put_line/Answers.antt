@@ -24,8 +24,8 @@ pub bounds-buffer-end : goal.bounds-buffer-end
 bounds-buffer-end c =
     omega (arith, next c.args.buffer.now c.args.at c.args.mark.now c.args.numbers.now c.loop-n.n-index c.told-mark c.requires c.loop-n.invariant c.loop-n-test.true)
 
-pub overflow-add-end-in-loop-n : goal.overflow-add-end-in-loop-n
-overflow-add-end-in-loop-n c =
+pub overflow_add-end-in-loop-n : goal.overflow_add-end-in-loop-n
+overflow_add-end-in-loop-n c =
     omega (arith, next c.args.buffer.now c.args.at c.args.mark.now c.args.numbers.now c.loop-n.n-index c.told-mark c.requires c.loop-n.invariant c.loop-n-test.true)
 
 pub number-end-requires : goal.number-end-requires
@@ -49,8 +49,8 @@ last c = line_room c.args.buffer.now c.args.at _ _ c.args.mark.now c.args.number
 pub bounds-buffer-end-2 : goal.bounds-buffer-end-2
 bounds-buffer-end-2 c = omega (arith, last c)
 
-pub overflow-add-result : goal.overflow-add-result
-overflow-add-result c = omega (arith, last c)
+pub overflow_add-result : goal.overflow_add-result
+overflow_add-result c = omega (arith, last c)
 
 pub returns : goal.returns
 returns c =

@@ -6,8 +6,8 @@ use Rattle.listing.proofs.put_row.Goals as goal
 pub loop-to-init : goal.loop-to-init
 loop-to-init g c = wrote_none _ _
 
-pub put-pair-end-requires : goal.put-pair-end-requires
-put-pair-end-requires g c =
+pub put_pair-end-requires : goal.put_pair-end-requires
+put_pair-end-requires g c =
     omega (
       arith,
       pair_room (g.T.Table.cell c.args.table.now) c.args.from c.loop-to.to c.value.result c.value.ensures
@@ -17,4 +17,4 @@ put-pair-end-requires g c =
 pub loop-to-preserved : goal.loop-to-preserved
 loop-to-preserved g c =
     wrote_pair (g.T.Table.cell c.args.table.now) c.args.from c.loop-to.to c.value.result c.value.ensures (omega arith) c.loop-to.invariant
-    (record { at_is = c.put-pair-end.ensures.value; held_is = c.put-pair-end.ensures.after })
+    (record { at_is = c.put_pair-end.ensures.value; held_is = c.put_pair-end.ensures.after })

@@ -16,14 +16,14 @@ use Rattle.maker.proofs.answer.Goals as goal
 unqueued : Meaning
 unqueued = record { waits = []; floor = 0; band = 0 }
 
-pub make-table-requires : goal.make-table-requires
-make-table-requires c =
+pub make_table-requires : goal.make_table-requires
+make_table-requires c =
     let took = c.in-Ok.ensures.cases in
-    let run = subst (λ s. Run [] s unqueued by_time) (sym c.in-ok-job.ensures) (start unqueued by_time) in (
+    let run = subst (λ s. Run [] s unqueued by_time) (sym c.in_ok-job.ensures) (start unqueued by_time) in (
       took.0,
       took.1.valid,
       took.2,
-      layings (length (state_of c.take-sheet.new.job).hall.legs) [],
+      layings (length (state_of c.take_sheet.new.job).hall.legs) [],
       unqueued,
       by_time,
       c.in-Ok.ensures.keeps [] unqueued by_time run,
@@ -31,14 +31,14 @@ make-table-requires c =
 
 pub returns-in-Ok : goal.returns-in-Ok
 returns-in-Ok c =
-    let value = cells (state_of c.make-table.new.job) in
-    let table = c.in-ok-make-table.ensures in
-    let lists : (h : Hall) → state_of c.take-sheet.new.job ≡ closed Laying h → Lists h (Listing c.in-ok-listed.field-0) =
+    let value = cells (state_of c.make_table.new.job) in
+    let table = c.in_ok-make_table-in-Ok.ensures in
+    let lists : (h : Hall) → state_of c.take_sheet.new.job ≡ closed Laying h → Lists h (Listing c.in_ok-listed-in-Ok.field-0) =
     λ h is.
     let hall = ap (λ s. s.hall) is in (
       value,
       subst (λ k. Tabled by_time k value) hall table.value,
-      c.in-ok-listed.ensures.made ∙ ap (λ k. listing k.points value) (table.same ∙ hall),
+      c.in_ok-listed-in-Ok.ensures.made ∙ ap (λ k. listing k.points value) (table.same ∙ hall),
     ) in
     let took = c.in-Ok.ensures.cases in
     record {

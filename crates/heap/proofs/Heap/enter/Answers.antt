@@ -15,7 +15,7 @@ returns c = record {
       omega (arith, all.item, long c.args.self.now.cells.now) in
       let room = roomy c.args.self.now.cells.now _ _ s c.args.item inside none in
       let heaped = c.enter.ensures.keeps s.heaped none inside room in
-      let more : c.args.self.now.count + 1 ≡ c.saturating-add-self.result = omega arith in
+      let more : c.args.self.now.count + 1 ≡ c.saturating_add-self.result = omega arith in
       let P : ℕ → Type 0 = λ n. Agrees c.enter.new.cells n c.args.self.now.floor in
       subst P more
       (entered_agrees c.args.self.now.cells.now _ _ _ c.args.item s c.args.key c.enter.ensures.after all none

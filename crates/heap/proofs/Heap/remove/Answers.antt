@@ -15,7 +15,7 @@ returns c = record {
       let low : c.args.key ≤ rank c.args.self.now.cells.now 0 =
       w.lowest (item_at c.args.self.now.cells.now 0) _ (root_waits c.args.self.now.cells.now _ _ s (omega arith)) in
       let P : ℕ → Type 0 = λ n. Agrees c.remove.new.cells n c.args.key in
-      subst P (sym c.saturating-sub-self.ensures)
+      subst P (sym c.saturating_sub-self.ensures)
       (taken_agrees c.args.self.now.cells.now _ _ _ c.args.item s c.args.key c.remove.ensures.after some low
       (c.remove.ensures.keeps c.args.key s.heaped some low));
 }

@@ -15,7 +15,7 @@ pub returns : goal.returns
 returns c = record {
   value = ap Some (cc) ∙ sym (cond-false _ _ _ (ne_eqb c.args.self.now.count 0 c.if-self-eq0.false));
   cases = λ s. (
-    ap (key_of (content c.args.self.now)) (ap (λ d. d.item) c.cell-at-item.ensures)
+    ap (key_of (content c.args.self.now)) (ap (λ d. d.item) c.cell_at-item.ensures)
         ∙ root_waits c.args.self.now.cells.now _ _ s (omega arith)
         ∙ ap Some (sym c.rank-key.ensures),
     lowest_from c.args.self.now.cells.now _ _ s c.rank-key.result (omega arith),

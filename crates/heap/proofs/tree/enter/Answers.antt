@@ -7,12 +7,12 @@ use Rattle.heap.proofs.tree.enter.Goals as goal
 pub returns : goal.returns
 returns c = record {
   after =
-      c.sift-up.ensures.same
+      c.sift_up.ensures.same
       ∙ ap keys c.stand.ensures
-      ∙ stood_keys c.set-key.new.cells c.args.count c.args.item
-      ∙ ap keys c.set-key.ensures
+      ∙ stood_keys c.set_key.new.cells c.args.count c.args.item
+      ∙ ap keys c.set_key.ensures
       ∙ keyed_keys c.args.cells.now c.args.item _;
   keeps = λ h none li ln.
-      let v = entered _ _ _ _ _ c.args.key c.set-key.ensures c.stand.ensures h none li ln in
-      c.sift-up.ensures.keeps (c.args.count + 1) v.0 v.1;
+      let v = entered _ _ _ _ _ c.args.key c.set_key.ensures c.stand.ensures h none li ln in
+      c.sift_up.ensures.keeps (c.args.count + 1) v.0 v.1;
 }

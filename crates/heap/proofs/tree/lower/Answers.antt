@@ -7,12 +7,12 @@ use Rattle.heap.proofs.tree.lower.Goals as goal
 pub returns : goal.returns
 returns c = record {
   after =
-      c.sift-up.ensures.same
-      ∙ ap keys c.set-key.ensures
+      c.sift_up.ensures.same
+      ∙ ap keys c.set_key.ensures
       ∙ keyed_keys c.args.cells.now c.args.item _;
   keeps = λ n old h some le.
       let v =
-      lowered c.args.cells.now _ n c.args.item old c.args.key c.cell-at-place.result.place
-      (ap (λ d. d.place) c.cell-at-place.ensures) c.set-key.ensures h some le in
-      c.sift-up.ensures.keeps n v.0 v.1;
+      lowered c.args.cells.now _ n c.args.item old c.args.key c.cell_at-place.result.place
+      (ap (λ d. d.place) c.cell_at-place.ensures) c.set_key.ensures h some le in
+      c.sift_up.ensures.keeps n v.0 v.1;
 }

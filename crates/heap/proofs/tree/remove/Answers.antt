@@ -8,15 +8,15 @@ use Rattle.heap.proofs.tree.remove.Goals as goal
 pub returns : goal.returns
 returns c = record {
   after =
-      c.sift-down.ensures.same
-      ∙ ap keys c.set-key.ensures
+      c.sift_down.ensures.same
+      ∙ ap keys c.set_key.ensures
       ∙ keyed_keys c.stand.new.cells c.args.item _
       ∙ ap (λ ks. set ks c.args.item None) (ap keys c.stand.ensures ∙ stood_keys c.args.cells.now _ _);
   keeps = λ k h some low.
       let v =
-      taken c.args.cells.now _ _ c.args.count c.args.item k _ c.saturating-sub-last.result _
-      (ap (λ d. d.place) c.cell-at-place.ensures) c.saturating-sub-last.ensures
-      (ap (λ d. d.item) c.cell-at-moved.ensures) c.stand.ensures c.set-key.ensures h some low in
-      let P : ℕ → Type 0 = λ n. Heaped c.sift-down.new.cells n in
-      subst P c.saturating-sub-last.ensures (c.sift-down.ensures.keeps v.0 v.1);
+      taken c.args.cells.now _ _ c.args.count c.args.item k _ c.saturating_sub-last.result _
+      (ap (λ d. d.place) c.cell_at-place.ensures) c.saturating_sub-last.ensures
+      (ap (λ d. d.item) c.cell_at-moved.ensures) c.stand.ensures c.set_key.ensures h some low in
+      let P : ℕ → Type 0 = λ n. Heaped c.sift_down.new.cells n in
+      subst P c.saturating_sub-last.ensures (c.sift_down.ensures.keeps v.0 v.1);
 }

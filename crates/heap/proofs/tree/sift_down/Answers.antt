@@ -10,7 +10,7 @@ returns-then-rank c = record {
   keeps = λ l u.
       let v = c.loop-at.invariant.1 l u in
       down_ends c.loop-at.cells c.args.count c.loop-at.at v.0 v.1
-      (λ d pos h e. omega (arith, c.lower-child-child.ensures.least d pos h e));
+      (λ d pos h e. omega (arith, c.lower_child-child.ensures.least d pos h e));
 }
 
 pub loop-at-preserved : goal.loop-at-preserved
@@ -18,6 +18,6 @@ loop-at-preserved c = (
   ap keys c.swap.ensures ∙ swapped_keys c.loop-at.cells c.loop-at.at _ ∙ c.loop-at.invariant.0,
   λ l u.
       let v = c.loop-at.invariant.1 l u in
-      down_again c.loop-at.cells c.args.count c.loop-at.at v.0 c.lower-child-child.result _
-      c.swap.ensures v.1 c.lower-child-child.ensures (omega arith),
+      down_again c.loop-at.cells c.args.count c.loop-at.at v.0 c.lower_child-child.result _
+      c.swap.ensures v.1 c.lower_child-child.ensures (omega arith),
 )

@@ -1,4 +1,4 @@
-use Rattle.std.proofs.Common.{◌*◌, ◌≤◌, refl}
+use Rattle.std.proofs.Common.{refl}
 use lib.Arith.{digits_lt}
 use Rattle.job.proofs.asking.place.Goals as goal
 

@@ -1,4 +1,4 @@
-use Rattle.std.proofs.Common.{◌≡◌, ◌<◌, ◌≢◌, length, sym, ap, ◌∙◌, arith, below_more}
+use Rattle.std.proofs.Common.{◌<◌, ◌≢◌, length, ◌∙◌, arith, below_more}
 use Rattle.job.proofs.Threads.{bare_within, first_set_same, first_set_other}
 use Rattle.job.proofs.laying.unthread.Goals as goal
 

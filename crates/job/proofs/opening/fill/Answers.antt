@@ -1,4 +1,4 @@
-use Rattle.std.proofs.Common.{◌≡◌, ◌+◌, [], ◌∷◌, ◌++◌, sym, refl, ap, ◌∙◌, arith}
+use Rattle.std.proofs.Common.{◌+◌, [], ◌∷◌, ◌++◌, sym, refl, ap, ◌∙◌}
 use Rattle.std.proofs.lemmas.List.{replicate_more, nil_from_length}
 use Rattle.model.specs.declared.Pair.TheVariants.{Unseen}
 use Rattle.job.proofs.opening.fill.Goals as goal
@@ -9,8 +9,8 @@ loop-place-init c = (nil_from_length c.args.pairs.now.items (sym c.args.pairs.no
 pub loop-place-preserved : goal.loop-place-preserved
 loop-place-preserved c =
     let inv = c.loop-place.invariant in
-    let e = c.push-reserved.ensures in (
-      e.items ∙ (ap (λ xs. xs ++ Unseen ∷ []) inv.0 ∙ replicate_more c.loop-place.-place Unseen),
+    let e = c.push_reserved.ensures in (
+      e.items ∙ (ap (λ xs. xs ++ Unseen ∷ []) inv.0 ∙ replicate_more c.loop-place._place Unseen),
       e.len ∙ ap (λ n. n + 1) inv.1,
       e.capacity ∙ inv.2,
     )

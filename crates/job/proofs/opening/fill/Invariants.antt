@@ -4,4 +4,4 @@ use Rattle.job.proofs.opening.fill.Given as goal
 
 abbrev pub invariant-loop-place : goal.invariant-loop-place
 invariant-loop-place l =
-    (vec_items l.pairs ≡ replicate l.-place Unseen) × (vec_len l.pairs ≡ l.-place) × (vec_capacity l.pairs ≡ vec_capacity l.initial.pairs)
+    (vec_items l.pairs ≡ replicate l._place Unseen) × (vec_len l.pairs ≡ l._place) × (vec_capacity l.pairs ≡ vec_capacity l.initial.pairs)

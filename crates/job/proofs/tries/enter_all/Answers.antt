@@ -5,14 +5,14 @@ use Rattle.model.specs.declared.Pair.TheVariants.{Waiting}
 use Rattle.job.proofs.Starting.{own_below, length_table, next_enters, start_waiting, start_settled}
 use Rattle.job.proofs.tries.enter_all.Goals as goal
 
-pub set-waiting-requires : goal.set-waiting-requires
-set-waiting-requires g c =
+pub set_waiting-requires : goal.set_waiting-requires
+set_waiting-requires g c =
     omega (arith, own_below c.args.points c.loop-point.point (omega arith), ap length c.loop-point.invariant.1, length_table c.args.points c.loop-point.point)
 
 pub loop-point-preserved : goal.loop-point-preserved
 loop-point-preserved g c = (
   omega arith,
-  c.set-waiting.ensures
+  c.set_waiting.ensures
       ∙ ap (λ ps. set ps (c.loop-point.point * c.args.points + c.loop-point.point) (Waiting 0 None)) c.loop-point.invariant.1
       ∙ ap (start_table c.args.points) (sym (add-one c.loop-point.point)),
   (λ s. c.lowered.ensures.keeps (c.loop-point.invariant.2 s)),

@@ -17,7 +17,7 @@ loop-place-preserved c =
     let on : followed s m c.args.from c.loop-place.at ≡ front ++ i ∷ [] =
     followed_on s c.args.from c.loop-place.at m i c.in-Some.before some (sym step.1) step.2 in
     let same : c.loop-place.place - 1 + 1 ≡ c.loop-place.place = omega arith in
-    let written : drop (c.loop-place.place - 1) c.step-back.new.buffer ≡ i ∷ drop c.loop-place.place c.loop-place.buffer =
+    let written : drop (c.loop-place.place - 1) c.step_back.new.buffer ≡ i ∷ drop c.loop-place.place c.loop-place.buffer =
     ap (drop (c.loop-place.place - 1)) step.3
     ∙ drop-set c.loop-place.buffer (c.loop-place.place - 1) i (omega arith)
     ∙ ap (λ p. i ∷ drop p c.loop-place.buffer) same in (

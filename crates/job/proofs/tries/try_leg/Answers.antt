@@ -31,11 +31,11 @@ returns-then-lowered g c =
     ] in
     record {
       after = λ s.
-          ap (λ ps. desk ps (g.Q.Queue.meaning c.lowered.new.queue)) c.set-waiting.ensures
+          ap (λ ps. desk ps (g.Q.Queue.meaning c.lowered.new.queue)) c.set_waiting.ensures
           ∙ offered_lowers c.args.pairs.now (g.Q.Queue.meaning c.args.queue.now) (g.Q.Queue.meaning c.lowered.new.queue) c.args.item c.join-key.result c.args.number un
           (sym (c.lowered.ensures.value s) ∙ c.if-lowered.true) (c.lowered.ensures.after s)
           ∙ ap (λ k. offered (desk c.args.pairs.now (g.Q.Queue.meaning c.args.queue.now)) c.args.item k c.args.number) c.join-key.ensures;
       keeps = c.lowered.ensures.keeps;
-      value = omega (arith, counts, ap waiting_in c.set-waiting.ensures, waits_more c.args.pairs.now c.args.item c.join-key.result (Some c.args.number) c.requires);
-      same = omega (arith, ap (λ v. one_if v 0) un, ap settled_in c.set-waiting.ensures, settles_same c.args.pairs.now c.args.item c.join-key.result (Some c.args.number) c.requires);
+      value = omega (arith, counts, ap waiting_in c.set_waiting.ensures, waits_more c.args.pairs.now c.args.item c.join-key.result (Some c.args.number) c.requires);
+      same = omega (arith, ap (λ v. one_if v 0) un, ap settled_in c.set_waiting.ensures, settles_same c.args.pairs.now c.args.item c.join-key.result (Some c.args.number) c.requires);
     }

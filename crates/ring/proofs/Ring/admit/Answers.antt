@@ -7,7 +7,7 @@ use Rattle.ring.proofs.Ring.admit.Goals as goal
 -- the item waits as low or lower already
 pub returns-then-key-old : goal.returns-then-key-old
 returns-then-key-old c = record {
-  cases = λ st a. (a, (c.in-Some.old, sym c.key-at.ensures ∙ c.in-Some.is, c.if-key-old.true), refl);
+  cases = λ st a. (a, (c.in-Some.old, sym c.key_at.ensures ∙ c.in-Some.is, c.if-key-old.true), refl);
   keeps = λ st a. st;
   same = refl;
 }
@@ -20,7 +20,7 @@ returns-in-None c =
     let end = c.link.new.self in
     let i = c.args.item in
     let k = c.args.key in
-    let d : get_or (keys cells) i None ≡ None = sym c.key-at.ensures ∙ c.in-None.is in
+    let d : get_or (keys cells) i None ≡ None = sym c.key_at.ensures ∙ c.in-None.is in
     let rows = λ (st : Standing slots cells q.floor q.waiting) (a : Allowed (meant slots cells q.floor) i k).
     let l = item_for slots cells q.floor q.waiting st i k a in
     c.link.ensures.after l (slot_for slots cells q.floor q.waiting st i l) in
@@ -49,7 +49,7 @@ returns-else-key-old c =
     let i = c.args.item in
     let k = c.args.key in
     let old = c.in-Some.old in
-    let d : get_or (keys cells) i None ≡ Some old = sym c.key-at.ensures ∙ c.in-Some.is in
+    let d : get_or (keys cells) i None ≡ Some old = sym c.key_at.ensures ∙ c.in-Some.is in
     let first = λ (st : Standing slots cells q.floor q.waiting) (a : Allowed (meant slots cells q.floor) i k).
     let l = item_for slots cells q.floor q.waiting st i k a in
     c.unlink.ensures.after l (slot_for slots cells q.floor q.waiting st i l) in

@@ -12,7 +12,7 @@ pub bounds-self-slot : goal.bounds-self-slot
 bounds-self-slot c =
     let p : 0 < length c.args.self.now.slots.now = omega arith in
     let e = c.loop-passed.invariant.0 p in
-    let m = mod-lt (c.args.self.now.floor + c.loop-passed.-passed) p in
+    let m = mod-lt (c.args.self.now.floor + c.loop-passed._passed) p in
     omega arith
 
 -- what the loop reads is the head of the slot of a key
@@ -25,24 +25,24 @@ read slots k s e l =
 pub returns-in-Some : goal.returns-in-Some
 returns-in-Some c =
     let slots = c.args.self.now.slots.now in
-    let k = c.args.self.now.floor + c.loop-passed.-passed in
+    let k = c.args.self.now.floor + c.loop-passed._passed in
     let p : 0 < length slots = omega arith in
     let e : c.loop-passed.slot ≡ k % length slots = c.loop-passed.invariant.0 p in
     let m = mod-lt k p in
     let l : c.loop-passed.slot < length slots = omega arith in
-    scan_found (heads slots) (length slots - c.loop-passed.-passed) k c.in-Some.item (omega arith)
+    scan_found (heads slots) (length slots - c.loop-passed._passed) k c.in-Some.item (omega arith)
     (read slots k c.loop-passed.slot e l ∙ (sym c.first.ensures ∙ c.in-Some.is))
     ∙ c.loop-passed.invariant.1
 
 pub loop-passed-preserved : goal.loop-passed-preserved
 loop-passed-preserved c =
     let slots = c.args.self.now.slots.now in
-    let k = c.args.self.now.floor + c.loop-passed.-passed in
+    let k = c.args.self.now.floor + c.loop-passed._passed in
     let p : 0 < length slots = omega arith in
     let e : c.loop-passed.slot ≡ k % length slots = c.loop-passed.invariant.0 p in
     let m = mod-lt k p in
     let l : c.loop-passed.slot < length slots = omega arith in
-    let one : c.args.self.now.floor + (c.loop-passed.-passed + 1) ≡ k + 1 = omega arith in (
+    let one : c.args.self.now.floor + (c.loop-passed._passed + 1) ≡ k + 1 = omega arith in (
       λ q. elim c.if-slot-slots.branch [
         | then-slot-slots w ↦
             let h = w.slot-is in
@@ -54,8 +54,8 @@ loop-passed-preserved c =
             let t : k % length slots + 1 ≡ length slots = omega arith in
             h ∙ (sym (first_place (length slots) k t) ∙ ap (λ x. x % length slots) (sym one))
       ],
-      scan_passed (heads slots) (length slots - c.loop-passed.-passed) (length slots - (c.loop-passed.-passed + 1)) k
-          (c.args.self.now.floor + (c.loop-passed.-passed + 1)) (omega arith) one
-          (read slots k c.loop-passed.slot e l ∙ (sym c.first.ensures ∙ c.in-default.is))
+      scan_passed (heads slots) (length slots - c.loop-passed._passed) (length slots - (c.loop-passed._passed + 1)) k
+          (c.args.self.now.floor + (c.loop-passed._passed + 1)) (omega arith) one
+          (read slots k c.loop-passed.slot e l ∙ (sym c.first.ensures ∙ c.in_default.is))
           ∙ c.loop-passed.invariant.1,
     )

@@ -24,10 +24,10 @@ figures slots cells e =
       few_cells = leb-true cells cell_limit c.1;
     }
 
-pub returns-then-is-err : goal.returns-then-is-err
-returns-then-is-err c =
+pub returns-then-is_err : goal.returns-then-is_err
+returns-then-is_err c =
     let f : fits (length c.args.slots.now) (length c.args.cells.now) ≡ false =
-    sym c.trial.ensures ∙ c.if-is-err.ensures.negation in
+    sym c.trial.ensures ∙ c.if-is_err.ensures.negation in
     record {
       made = λ b. sym (cond-false (fits (length c.args.slots.now) (length c.args.cells.now)) _ _ f);
       keeps = λ b. blank_stands [] [] (λ i. refl) (λ s. refl) (omega arith) (omega arith) (λ p. p) (λ p. p);
@@ -37,7 +37,7 @@ pub returns : goal.returns
 returns c =
     let slots = c.args.slots.now in
     let cells = c.args.cells.now in
-    let f : fits (length slots) (length cells) ≡ true = sym c.trial.ensures ∙ c.if-is-err.ensures.negation in
+    let f : fits (length slots) (length cells) ≡ true = sym c.trial.ensures ∙ c.if-is_err.ensures.negation in
     let n = figures (length slots) (length cells) f in
     record {
       made = λ b. blank_meant slots cells b.no_key b.no_head ∙ sym (cond-true (fits (length slots) (length cells)) _ _ f);

@@ -15,20 +15,20 @@ returns-then-self-eq0 c =
           (chosen_least q.slots.now q.cells.now q.floor q.waiting st);
     }
 
-pub returns-in-default : goal.returns-in-default
-returns-in-default c =
+pub returns-in_default : goal.returns-in_default
+returns-in_default c =
     let q = c.args.self.now in
-    let e = ap (entry_of (keys q.cells.now)) (sym c.in-default.is ∙ c.nearest.ensures) in
+    let e = ap (entry_of (keys q.cells.now)) (sym c.in_default.is ∙ c.nearest.ensures) in
     record {
       value = λ st. e;
       cases = λ st. subst (λ o. Least (meant q.slots.now q.cells.now q.floor) o) (sym e)
           (chosen_least q.slots.now q.cells.now q.floor q.waiting st);
     }
 
-pub returns-in-default-key-at : goal.returns-in-default-key-at
-returns-in-default-key-at c =
+pub returns-in_default-key_at : goal.returns-in_default-key_at
+returns-in_default-key_at c =
     let q = c.args.self.now in
-    let e = ap (entry_at c.in-Some.item) (sym c.in-default-key-at.is ∙ c.key-at.ensures)
+    let e = ap (entry_at c.in-Some.item) (sym c.in_default-key_at.is ∙ c.key_at.ensures)
     ∙ ap (entry_of (keys q.cells.now)) (sym c.in-Some.is ∙ c.nearest.ensures) in
     record {
       value = λ st. e;
@@ -39,7 +39,7 @@ returns-in-default-key-at c =
 pub returns : goal.returns
 returns c =
     let q = c.args.self.now in
-    let e = ap (entry_at c.in-Some.item) (sym c.in-Some-key-at.is ∙ c.key-at.ensures)
+    let e = ap (entry_at c.in-Some.item) (sym c.in-Some-key_at.is ∙ c.key_at.ensures)
     ∙ ap (entry_of (keys q.cells.now)) (sym c.in-Some.is ∙ c.nearest.ensures) in
     record {
       value = λ st. e;

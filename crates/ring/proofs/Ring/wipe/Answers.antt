@@ -24,9 +24,9 @@ returns c =
     let q = c.args.self.now in
     record {
       after = λ st.
-          cleared_meant q.slots.now c.blank-slots.new.slots q.cells.now c.blank-cells.new.cells q.floor q.waiting st
-          c.blank-slots.auto.slots c.blank-cells.auto.cells c.blank-cells.ensures c.blank-slots.ensures;
+          cleared_meant q.slots.now c.blank_slots.new.slots q.cells.now c.blank_cells.new.cells q.floor q.waiting st
+          c.blank_slots.auto.slots c.blank_cells.auto.cells c.blank_cells.ensures c.blank_slots.ensures;
       keeps = λ st.
-          cleared_stands q.slots.now c.blank-slots.new.slots q.cells.now c.blank-cells.new.cells q.floor q.waiting st
-          c.blank-slots.auto.slots c.blank-cells.auto.cells c.blank-cells.ensures c.blank-slots.ensures;
+          cleared_stands q.slots.now c.blank_slots.new.slots q.cells.now c.blank_cells.new.cells q.floor q.waiting st
+          c.blank_slots.auto.slots c.blank_cells.auto.cells c.blank_cells.ensures c.blank_slots.ensures;
     }

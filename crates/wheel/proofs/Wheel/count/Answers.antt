@@ -1,4 +1,4 @@
-use Rattle.std.proofs.Common.{◌≡◌, ℕ, ◌+◌, ◌%◌, ◌^◌, ◌<◌, ◌≤◌, sym, refl, ap, ◌∙◌, mod-eq_of_lt, arith}
+use Rattle.std.proofs.Common.{arith}
 use Rattle.wheel.proofs.Calls.{waiting_is, waiting_few}
 use Rattle.wheel.proofs.Wheel.count.Goals as goal
 

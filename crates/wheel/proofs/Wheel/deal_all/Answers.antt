@@ -1,4 +1,4 @@
-use Rattle.std.proofs.Common.{◌≡◌, ℕ, ◌+◌, true, false, sym, refl, ap, ◌∙◌, subst, add-zero, arith}
+use Rattle.std.proofs.Common.{◌≡◌, true, false, sym, refl, ap, ◌∙◌, subst, add-zero, arith}
 use Rattle.queue.specs.Meaning.{held}
 use Rattle.wheel.specs.Joined.{joined}
 use Rattle.wheel.specs.Rims.{rim_keys}
@@ -14,39 +14,39 @@ loop-preserved g c =
     let inv = c.loop.invariant in
     let n = c.args.self.now.current in
     let b = g.Q.Queue.meaning c.loop.self.below in
-    let b2 = g.Q.Queue.meaning c.deal-next.new.self.below in
+    let b2 = g.Q.Queue.meaning c.deal_next.new.self.below in
     let one : g.Q.Queue.sound c.loop.self.below → Dealing n c.loop.self.rim b
-    → Deals n c.loop.self.rim b true c.deal-next.new.self.rim b2
+    → Deals n c.loop.self.rim b true c.deal_next.new.self.rim b2
     = subst (λ a. g.Q.Queue.sound c.loop.self.below → Dealing a c.loop.self.rim b
-    → Deals a c.loop.self.rim b true c.deal-next.new.self.rim b2)
-    inv.1 c.if-not-deal-next.ensures.after in (
-      λ s. c.deal-next.ensures.keeps (inv.0 s),
-      c.deal-next.ensures.same ∙ inv.1,
+    → Deals a c.loop.self.rim b true c.deal_next.new.self.rim b2)
+    inv.1 c.if-not-deal_next.ensures.after in (
+      λ s. c.deal_next.ensures.keeps (inv.0 s),
+      c.deal_next.ensures.same ∙ inv.1,
       λ s d. let i = inv.2 s d in let e = one (inv.0 s) i.0 in
           (e.0, e.1 ∙ i.1, (let x = e.2 in let y = i.2 in omega arith), e.3 ∙ i.3),
     )
 
-pub returns-then-not-deal-next : goal.returns-then-not-deal-next
+pub returns-then-not-deal_next : goal.returns-then-not-deal_next
 unfolding Turned
-returns-then-not-deal-next g c =
+returns-then-not-deal_next g c =
     let inv = c.loop.invariant in
     let n = c.args.self.now.current in
     let b = g.Q.Queue.meaning c.loop.self.below in
-    let b2 = g.Q.Queue.meaning c.deal-next.new.self.below in
+    let b2 = g.Q.Queue.meaning c.deal_next.new.self.below in
     let r = c.args.self.now.rim in
     let one : g.Q.Queue.sound c.loop.self.below → Dealing n c.loop.self.rim b
-    → Deals n c.loop.self.rim b false c.deal-next.new.self.rim b2
+    → Deals n c.loop.self.rim b false c.deal_next.new.self.rim b2
     = subst (λ a. g.Q.Queue.sound c.loop.self.below → Dealing a c.loop.self.rim b
-    → Deals a c.loop.self.rim b false c.deal-next.new.self.rim b2)
-    inv.1 c.if-not-deal-next.ensures.after in
+    → Deals a c.loop.self.rim b false c.deal_next.new.self.rim b2)
+    inv.1 c.if-not-deal_next.ensures.after in
     record {
-      keeps = λ s. c.deal-next.ensures.keeps (inv.0 s);
-      same = c.deal-next.ensures.same ∙ inv.1;
+      keeps = λ s. c.deal_next.ensures.keeps (inv.0 s);
+      same = c.deal_next.ensures.same ∙ inv.1;
       after = λ s a m eq sound due.
           let d = subst (λ v. Dealing n r v) (sym eq) (due_dealing a n r m sound due) in
           let i = inv.2 s d in
           let e = one (inv.0 s) i.0 in (
-            c.deal-next.ensures.same ∙ inv.1,
+            c.deal_next.ensures.same ∙ inv.1,
             e.1 ∙ i.1,
             e.0,
             ap (λ v. v.waits) (e.2 ∙ i.3) ∙ ap (λ v. joined (base n r) (rim_keys r) v.waits) eq ∙ due_waits a n r m sound due,

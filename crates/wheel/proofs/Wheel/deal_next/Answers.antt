@@ -1,16 +1,16 @@
-use Rattle.std.proofs.Common.{◌≡◌, ◌%◌, sym, refl, ap, ◌∙◌, subst}
+use Rattle.std.proofs.Common.{sym, refl, ap, ◌∙◌}
 use Rattle.wheel.specs.Rims.{place_of}
 use Rattle.chains.proofs.Threads.{same_some}
 use Rattle.wheel.proofs.Turning.{deal_step, deal_end}
 use Rattle.wheel.proofs.Wheel.deal_next.Goals as goal
 
-pub returns-in-default : goal.returns-in-default
-returns-in-default g c = record {
+pub returns-in_default : goal.returns-in_default
+returns-in_default g c = record {
   keeps = λ s. s;
   same = refl;
   after = λ s d.
       deal_end c.args.self.now.current c.args.self.now.rim (g.Q.Queue.meaning c.args.self.now.below) d
-      (c.in-default.ensures d.rim);
+      (c.in_default.ensures d.rim);
 }
 
 pub returns : goal.returns

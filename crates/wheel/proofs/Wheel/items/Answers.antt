@@ -1,4 +1,4 @@
-use Rattle.std.proofs.Common.{◌≡◌, sym, ◌∙◌}
+use Rattle.std.proofs.Common.{sym, ◌∙◌}
 use Rattle.wheel.specs.Rims.{rim_keys}
 use Rattle.wheel.specs.Wheels.{base}
 use Rattle.wheel.specs.Banded.{length_joined}

@@ -1,4 +1,4 @@
-use Rattle.std.proofs.Common.{◌≡◌, ℕ, ◌+◌, ◌%◌, ◌^◌, ◌<◌, ◌≤◌, Some, sym, refl, ap, ◌∙◌, mod-eq_of_lt, arith}
+use Rattle.std.proofs.Common.{◌≡◌, ◌+◌, ◌%◌, ◌^◌, Some, sym, ap, ◌∙◌, arith}
 use Rattle.wheel.specs.Wheels.{base}
 use Rattle.wheel.proofs.Calls.{base_small, key_fits, key_in_rim, key_below, key_nowhere}
 use Rattle.wheel.proofs.Wheel.key_of.Goals as goal

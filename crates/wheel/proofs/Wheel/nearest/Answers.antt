@@ -1,4 +1,4 @@
-use Rattle.std.proofs.Common.{◌≡◌, ℕ, ◌+◌, ◌%◌, ◌^◌, ◌<◌, ◌≤◌, Some, None, Option, sym, refl, ap, ◌∙◌, subst, mod-eq_of_lt, arith}
+use Rattle.std.proofs.Common.{◌≡◌, ℕ, ◌+◌, ◌%◌, ◌^◌, Some, Option, sym, ap, ◌∙◌, subst, arith}
 use Rattle.queue.specs.declared.Entry.{Entry}
 use Rattle.queue.specs.Meaning.{Least}
 use Rattle.wheel.specs.Wheels.{base, whole, wheel_named}
@@ -33,7 +33,7 @@ returns-in-None g c =
     let r = c.args.self.now.rim in
     let b = g.Q.Queue.meaning c.args.self.now.below in
     record {
-      value = λ q s. c.least-after.ensures ∙ ap (wheel_named a r) (c.in-None.ensures.value q);
-      cases = λ q s. subst (λ v. Least (whole a r b) v) (sym c.least-after.ensures)
+      value = λ q s. c.least_after.ensures ∙ ap (wheel_named a r) (c.in-None.ensures.value q);
+      cases = λ q s. subst (λ v. Least (whole a r b) v) (sym c.least_after.ensures)
           (least_from_rim a r b s (c.in-None.ensures.cases q));
     }

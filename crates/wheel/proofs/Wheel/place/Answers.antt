@@ -1,4 +1,4 @@
-use Rattle.std.proofs.Common.{◌≡◌, sym, ◌∙◌}
+use Rattle.std.proofs.Common.{sym, ◌∙◌}
 use Rattle.wheel.proofs.Turning.{place_below, place_later}
 use Rattle.wheel.proofs.Wheel.place.Goals as goal
 

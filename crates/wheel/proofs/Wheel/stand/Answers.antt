@@ -1,8 +1,7 @@
-use Rattle.std.proofs.Common.{◌≡◌, ℕ, min, length, replicate, IfOk, None, Result, sym, refl, ap, ◌∙◌, subst}
+use Rattle.std.proofs.Common.{◌≡◌, min, replicate, IfOk, None, sym, ap, ◌∙◌, subst}
 use Rattle.std.proofs.lemmas.List.{length-replicate}
 use Rattle.figures.specs.Limits.{cell_limit}
 use Rattle.queue.specs.Meaning.{capacity}
-use Rattle.wheel.specs.declared.rim.Rim.{Rim}
 use Rattle.wheel.specs.Rims.{rim_keys, RimSound}
 use Rattle.wheel.specs.Wheels.{Figures, Fresh, WheelSound, whole}
 use Rattle.wheel.proofs.Calls.{made_good, made_bad}

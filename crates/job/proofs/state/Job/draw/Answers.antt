@@ -4,14 +4,14 @@ use Rattle.job.proofs.Dues.{answers_err, due_past, due_here}
 use Rattle.job.proofs.Settling.{named_small, named_is_taken, first_is, first_none}
 use Rattle.job.proofs.state.Job.draw.Goals as goal
 
-pub returns-then-entry-gt-VALUE-LIMIT : goal.returns-then-entry-gt-VALUE-LIMIT
-returns-then-entry-gt-VALUE-LIMIT g c = record {
+pub returns-then-entry-gt-VALUE_LIMIT : goal.returns-then-entry-gt-VALUE_LIMIT
+returns-then-entry-gt-VALUE_LIMIT g c = record {
   cases = λ s.
       let q = c.args.queue.now in
       let e = c.in-Ok.entry in
       let is : g.Q.Queue.named q ≡ Some e = sym (c.in-Fit.ensures.value s).0 ∙ first_is c.in-Fit.named e c.in-Ok.ensures in
       let small = named_small (g.Q.Queue.meaning q) (g.Q.Queue.named q) e (g.Q.Queue.banded q s) (c.fit-fitness.ensures.cases s) is in
-      absurd (omega (arith, small, c.if-entry-gt-VALUE-LIMIT.true));
+      absurd (omega (arith, small, c.if-entry-gt-VALUE_LIMIT.true));
   keeps = λ s. s;
   same = (refl, refl);
   refused = λ s. refl;

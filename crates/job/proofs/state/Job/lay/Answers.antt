@@ -1,7 +1,5 @@
-use Rattle.std.proofs.Common.{◌≡◌, ◌<◌, ◌≤◌, true, map, length, set, Some, None, sym, refl, ap, ◌∙◌, arith}
+use Rattle.std.proofs.Common.{◌<◌, ◌≤◌, map, length, set, Some, None, sym, refl, ap, ◌∙◌, arith}
 use lib.ListN.{length-map}
-use Rattle.chains.specs.declared.Chain.{Chain}
-use Rattle.model.specs.State.{is_laying}
 use Rattle.job.specs.declared.leg.Leg.{Leg}
 use Rattle.job.specs.Legs.{leg_of}
 use Rattle.job.specs.View.{state_of}
@@ -9,8 +7,8 @@ use Rattle.job.proofs.Dues.{answers_ok, answers_err, lay_full, lay_free, laying_
 use Rattle.job.proofs.Threads.{within_push, threaded_push}
 use Rattle.job.proofs.state.Job.lay.Goals as goal
 
-pub returns-then-number-ge-LEG-LIMIT : goal.returns-then-number-ge-LEG-LIMIT
-returns-then-number-ge-LEG-LIMIT c =
+pub returns-then-number-ge-LEG_LIMIT : goal.returns-then-number-ge-LEG_LIMIT
+returns-then-number-ge-LEG_LIMIT c =
     let legs = c.args.self.now.legs in
     let full : 1600 ≤ length (map leg_of legs.items) = (let m = length-map legs.items leg_of in let k = legs.ok.0 in omega arith) in
     record {
@@ -21,8 +19,8 @@ returns-then-number-ge-LEG-LIMIT c =
       same = refl;
     }
 
-pub invariant-of-self : goal.invariant-of-self
-invariant-of-self c =
+pub invariant_of-self : goal.invariant_of-self
+invariant_of-self c =
     let j = c.args.self.now in
     let l : Leg = record { from = c.args.from; to = c.args.to; cost = c.args.cost; next = None } in
     let legs = j.legs.items in
@@ -30,19 +28,19 @@ invariant-of-self c =
     let r = c.thread.ensures in
     let lt : c.args.from < length j.leaving.items =
     (let a = c.if-from-self.false in let b = j.sized in let d = j.leaving.ok.0 in omega arith) in
-    let new = r.value ∙ ap (λ n. set j.leaving.items c.args.from (record { first = Some n })) j.legs.ok.0 in (
-      (omega (arith, r.bound, j.roomy), j.roomy.1),
-      (
-        (j.sized.0, j.sized.1, omega (arith, r.len, c.if-number-ge-LEG-LIMIT.false, c.len-number.ensures), r.len.1 ∙ j.sized.3),
-        (
-          within_push j.points j.bound legs more l r.items j.within c.if-from-self.false c.if-to-self.false (omega (arith, c.if-cost-self.false)),
-          (
-            threaded_push j.points j.bound legs more l r.items j.leaving.items c.thread.new.leaving.items r.after new lt j.threaded,
-            (j.counted, (j.shut, (j.unopened, (j.peopled, (j.opened, (j.ends, (j.left, tt))))))),
-          ),
-        ),
-      ),
-    )
+    let new = r.value ∙ ap (λ n. set j.leaving.items c.args.from (record { first = Some n })) j.legs.ok.0 in record {
+      roomy = (omega (arith, r.bound, j.roomy), j.roomy.1);
+      sized = (j.sized.0, j.sized.1, omega (arith, r.len, c.if-number-ge-LEG_LIMIT.false, c.len-number.ensures), r.len.1 ∙ j.sized.3);
+      within = within_push j.points j.bound legs more l r.items j.within c.if-from-self.false c.if-to-self.false (omega (arith, c.if-cost-self.false));
+      threaded = threaded_push j.points j.bound legs more l r.items j.leaving.items c.thread.new.leaving.items r.after new lt j.threaded;
+      counted = j.counted;
+      shut = j.shut;
+      unopened = j.unopened;
+      peopled = j.peopled;
+      opened = j.opened;
+      ends = j.ends;
+      left = j.left;
+    }
 
 pub returns : goal.returns
 returns c =
@@ -50,7 +48,7 @@ returns c =
     let p = laying_is j.phase (sym c.if-not-laying.ensures) in
     let m = length-map j.legs.items leg_of in
     let k = j.legs.ok.0 in
-    let few : length (map leg_of j.legs.items) < 1600 = omega (arith, c.if-number-ge-LEG-LIMIT.false, c.len-number.ensures) in
+    let few : length (map leg_of j.legs.items) < 1600 = omega (arith, c.if-number-ge-LEG_LIMIT.false, c.len-number.ensures) in
     let number = c.len-number.ensures ∙ (k ∙ sym m) in
     let shut = j.shut p.1 in
     record {

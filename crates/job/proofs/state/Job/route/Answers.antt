@@ -1,4 +1,4 @@
-use Rattle.std.proofs.Common.{◌≡◌, ℕ, List, ◌++◌, length, drop, sym, refl, ap, ◌∙◌, subst, arith}
+use Rattle.std.proofs.Common.{◌≡◌, ◌++◌, length, drop, sym, refl, ap, ◌∙◌, arith}
 use Rattle.std.proofs.lemmas.Bool.{not_from_true, and_from, lt-ltb, le-ltb}
 use Rattle.model.specs.Calls.{is_settled}
 use Rattle.model.specs.State.{route}
@@ -15,10 +15,10 @@ returns c =
     let v = c.args.to in
     let b = c.args.buffer.now in
     let s = state_of j in
-    let is : route (reading (hall_of j.points 0 c.as-slice-legs.result.now) c.as-slice-pairs.result.now) u v ≡ route s u v =
-    ap (λ ls. route (reading (hall_of j.points 0 ls) c.as-slice-pairs.result.now) u v) c.as-slice-legs.ensures.value
-    ∙ ap (λ ps. route (reading (hall_of j.points 0 j.legs.items) ps) u v) c.as-slice-pairs.ensures.value in
-    let len : c.route-len-len.result ≡ length (route s u v) = c.route-len-len.ensures ∙ ap length is in
+    let is : route (reading (hall_of j.points 0 c.as_slice-legs.result.now) c.as_slice-pairs.result.now) u v ≡ route s u v =
+    ap (λ ls. route (reading (hall_of j.points 0 ls) c.as_slice-pairs.result.now) u v) c.as_slice-legs.ensures.value
+    ∙ ap (λ ps. route (reading (hall_of j.points 0 j.legs.items) ps) u v) c.as_slice-pairs.ensures.value in
+    let len : c.route_len-len.result ≡ length (route s u v) = c.route_len-len.ensures ∙ ap length is in
     let settled = sym (c.if-not-settled.ensures ∙ ap is_settled c.pair.ensures) in
     record {
       cases = answers_ok _ _ _ _ _
@@ -26,5 +26,5 @@ returns c =
           (due_past _ _ _ _ (not_from_true _ (and_from _ _ (lt-ltb u j.points c.if-from-self.false) (lt-ltb v j.points c.if-to-self.false)))
           (due_past _ _ _ _ (not_from_true _ settled)
           (due_past _ _ _ _ (le-ltb (length b) (length (route s u v)) (omega (arith, c.if-len-buffer.false, len))) refl))))
-          (len, c.route-into.ensures ∙ (ap (λ r. r ++ drop c.route-len-len.result b) is ∙ ap (λ n. route s u v ++ drop n b) len));
+          (len, c.route_into.ensures ∙ (ap (λ r. r ++ drop c.route_len-len.result b) is ∙ ap (λ n. route s u v ++ drop n b) len));
     }

@@ -4,4 +4,4 @@ use Rattle.sheet.proofs.steps.Cursor.field.Goals as goal
 
 pub returns : goal.returns
 returns c =
-    (field_taken _ c.pass.new.self _ _ c.requires c.in-ok-pass.ensures.0 c.in-ok-figures.ensures.0 c.in-ok-figures.ensures.1 c.in-ok-figures.ensures.2 refl refl, refl)
+    (field_taken _ c.pass.new.self _ _ c.requires c.in_ok-pass.ensures.0 c.in_ok-figures.ensures.0 c.in_ok-figures.ensures.1 c.in_ok-figures.ensures.2 refl refl, refl)

@@ -1,4 +1,4 @@
-use Rattle.std.proofs.Common.{◌≡◌, ℕ, Option, ap}
+use Rattle.std.proofs.Common.{ℕ, Option, ap}
 use Rattle.wheel.specs.declared.rim.Compartment.{Compartment}
 use Rattle.wheel.proofs.rim.Compartment.new.Goals as goal
 

@@ -1,4 +1,4 @@
-use Rattle.std.proofs.Common.{◌≡◌, ◌<◌, ◌≤◌, map, length, None, sym, ap, ◌∙◌, arith}
+use Rattle.std.proofs.Common.{map, None, sym, ap, ◌∙◌, arith}
 use Rattle.std.proofs.lemmas.List.{length-map, get_or_past, get_or-map}
 use Rattle.wheel.specs.Rims.{cell_key}
 use Rattle.wheel.proofs.rim.Rim.key.Goals as goal

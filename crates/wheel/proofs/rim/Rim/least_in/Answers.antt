@@ -1,4 +1,4 @@
-use Rattle.std.proofs.Common.{◌≡◌, ℕ, suc, ◌+◌, ◌-◌, ◌<◌, ◌≤◌, length, get_or, Some, None, sym, refl, ap, ◌∙◌, arith}
+use Rattle.std.proofs.Common.{◌≡◌, suc, ◌+◌, ◌-◌, ◌<◌, length, get_or, None, sym, ap, ◌∙◌, arith}
 use Rattle.std.proofs.lemmas.List.{length-map, get_or-map, get_or_past}
 use Rattle.wheel.specs.Later.{scan, nearer}
 use Rattle.wheel.specs.Rims.{cell_key, cell_next, rim_keys, rim_nexts, rim_firsts}
@@ -48,10 +48,10 @@ returns-after-loop c =
     sym (scan_zero (rim_keys r) (rim_nexts r) (length (rim_keys r) - c.loop.counter) c.loop.at c.loop.best (omega (arith, c.len-end.ensures)))
     ∙ c.loop.invariant
 
-pub returns-in-default : goal.returns-in-default
-returns-in-default c =
+pub returns-in_default : goal.returns-in_default
+returns-in_default c =
     let r = c.args.self.now in
-    sym (scan_none (rim_keys r) (rim_nexts r) (length (rim_keys r) - c.loop.counter) c.loop.at c.loop.best c.in-default.is)
+    sym (scan_none (rim_keys r) (rim_nexts r) (length (rim_keys r) - c.loop.counter) c.loop.at c.loop.best c.in_default.is)
     ∙ c.loop.invariant
 
 pub returns-then-item-len : goal.returns-then-item-len

@@ -1,4 +1,4 @@
-use Rattle.std.proofs.Common.{◌≡◌, ◌-◌, length, Some, None}
+use Rattle.std.proofs.Common.{◌≡◌, ◌-◌, length, Some}
 use Rattle.wheel.specs.Later.{scan}
 use Rattle.wheel.specs.Rims.{rim_keys, rim_nexts, least_at}
 use Rattle.wheel.proofs.rim.Rim.least_in.Given as goal

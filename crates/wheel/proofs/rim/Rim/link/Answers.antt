@@ -1,4 +1,4 @@
-use Rattle.std.proofs.Common.{◌≡◌, ◌%◌, ◌<◌, ◌≤◌, Some, sym, refl, ap, ◌∙◌, inl, inr, mod-lt, arith}
+use Rattle.std.proofs.Common.{Some, refl, arith}
 use Rattle.std.proofs.lemmas.List.{length-map}
 use Rattle.wheel.specs.Rims.{cell_key}
 use Rattle.wheel.proofs.Rims.{linked}
@@ -19,6 +19,6 @@ returns-then-place-len c h l n =
 pub returns : goal.returns
 returns c h l n =
     linked c.args.self.now h c.args.item c.args.key c.quotient.result c.quotient.ensures
-    c.index-old.result.now c.index-old.ensures c.as-mut-slice.result.now c.enter-chain.new.cells
-    c.as-mut-slice.ensures.value c.enter-chain.result (Some c.args.key) c.enter-chain.ensures.items
+    c.index-old.result.now c.index-old.ensures c.as_mut_slice.result.now c.enter-chain.new.cells
+    c.as_mut_slice.ensures.value c.enter-chain.result (Some c.args.key) c.enter-chain.ensures.items
     refl l n c.enter-chain.ensures.value c.enter-chain.ensures.after c.enter-chain.ensures.keeps
