@@ -1,7 +1,7 @@
 // The inner steps of a job over its parts: a table of pairs, the legs, a queue and a rule.
-ghost use Rattle.std.specs.Prelude.{◌≡◌, ◌+◌, ◌*◌, ◌<◌, ◌≤◌, min, [], ◌++◌, length, drop, replicate, if◌then◌else◌, slice_index_or, slice_set};
+ghost use Rattle.std.specs.Prelude.{◌≡◌, ◌+◌, ◌*◌, ◌<◌, ◌≤◌, [], ◌++◌, length, drop, replicate, if◌then◌else◌, slice_index_or, slice_set};
 ghost use Rattle.chains.specs.Threads.{Chained};
-ghost use Rattle.figures.specs.Limits.{value_limit, cost_limit};
+ghost use Rattle.figures.specs.Limits.{value_limit};
 ghost use Rattle.queue.specs.Meaning.{Meaning, put, capacity, cleared, key_of, Least};
 ghost use Rattle.walks.specs.Hall.{leg};
 ghost use Rattle.model.specs.State.{settled_in, waiting_in, noted_key, last_leg, pair_at, leaving as legs_from, route};
@@ -107,19 +107,17 @@ fn set_waiting(pairs: &mut [Pair], item: usize, key: u32, last: Option<usize>)
     pairs[item] = Pair::Waiting { key, last };
 }
 
-// Tries a leg of some cost to the pair of an item, from a pair of some value. Answers 1 where the pair begins to wait,
-// else 0. The queue would keep an item that waits as low already, so the question spares the offer: most tries end there.
-pub(crate) fn try_leg<Q: Queue, R: Rule>(
+// Tries a leg to the pair of an item, with the key that it would have. Answers 1 where the pair begins to wait, else 0.
+// The queue would keep an item that waits as low already, so the question spares the offer: most tries end there.
+pub(crate) fn try_leg<Q: Queue>(
     pairs: &mut [Pair],
     queue: &mut Q,
-    rule: &R,
     item: usize,
-    value: u32,
-    cost: u32,
+    key: u32,
     number: usize,
 ) -> usize
     requires { item < length pairs.old }
-    ensures after { Q.Queue.sound queue.old → desk pairs.new (Q.Queue.meaning queue.new) ≡ offered (desk pairs.old (Q.Queue.meaning queue.old)) item (R.Rule.joined rule.now (min value value_limit) (min cost cost_limit)) number }
+    ensures after { Q.Queue.sound queue.old → desk pairs.new (Q.Queue.meaning queue.new) ≡ offered (desk pairs.old (Q.Queue.meaning queue.old)) item key number }
     ensures keeps { Q.Queue.sound queue.old → Q.Queue.sound queue.new }
     ensures value { waiting_in pairs.new ≡ waiting_in pairs.old + result }
     ensures same { settled_in pairs.new ≡ settled_in pairs.old }
@@ -129,7 +127,6 @@ pub(crate) fn try_leg<Q: Queue, R: Rule>(
         Pair::Waiting { .. } => 0,
         Pair::Unseen => 1,
     };
-    let key = rule.join(value, cost);
     if waits(queue, item, key) {
         return 0;
     }
@@ -202,8 +199,8 @@ pub(crate) fn spread_over<Q: Queue, R: Rule>(
     let mut next = leaving[far].first();
     while let Some(number) = next {
         let leg = legs[number];
-        let item = from * points + leg.to;
-        fresh += try_leg(pairs, queue, rule, item, value, leg.cost, number);
+        let key = rule.join(value, leg.cost);
+        fresh += try_leg(pairs, queue, from * points + leg.to, key, number);
         tried += 1;
         next = leg.next;
     }

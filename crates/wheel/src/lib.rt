@@ -8,10 +8,9 @@
 // or jobs.
 #![tactic(auto)]
 
-ghost use Rattle.std.specs.Prelude.{◌≡◌, ℕ, ◌^◌, ◌<◌, true, false, Some, None, MatchResult, slice_index_or};
+ghost use Rattle.std.specs.Prelude.{◌≡◌, ℕ, ◌^◌, ◌<◌, true, false, Some, MatchResult};
 ghost use Rattle.queue.specs.Meaning.{Meaning, capacity, waiting, key_of, cleared, Least, Lowest, Takes};
 ghost use Rattle.wheel.specs.Banded.{whole_banded};
-ghost use Rattle.wheel.specs.Rims.{rim_keys};
 ghost use Rattle.wheel.specs.Wheels.{base as first_key, whole, WheelSound, wheel_named, Dealing, Deals, Sent, Turned, Placed, Tried, Fresh, Lower};
 
 mod rim;
@@ -208,13 +207,15 @@ impl<Q: Queue + Drop> Wheel<Q> {
         }
     }
 
-    // Takes an item of lowest key that waits in a later compartment: it becomes current, and the item is taken below.
+    // Takes an item of lowest key below, once its compartment is current.
     fn draw(&mut self, item: usize, key: u32) -> Result<(), TakeRefusal>
-        ensures cases { Q.Queue.sound self.old.below → WheelSound self.old.current self.old.rim (Q.Queue.meaning self.old.below) → slice_index_or (rim_keys self.old.rim) item None ≡ Some key → Lowest (whole self.old.current self.old.rim (Q.Queue.meaning self.old.below)) key → Takes (whole self.old.current self.old.rim (Q.Queue.meaning self.old.below)) item result (whole self.new.current self.new.rim (Q.Queue.meaning self.new.below)) }
-        ensures keeps { Q.Queue.sound self.old.below → WheelSound self.old.current self.old.rim (Q.Queue.meaning self.old.below) → slice_index_or (rim_keys self.old.rim) item None ≡ Some key → Lowest (whole self.old.current self.old.rim (Q.Queue.meaning self.old.below)) key → Q.Queue.sound self.new.below × WheelSound self.new.current self.new.rim (Q.Queue.meaning self.new.below) }
+        ensures cases { Q.Queue.sound self.old.below → WheelSound self.old.current self.old.rim (Q.Queue.meaning self.old.below) → key_of (whole self.old.current self.old.rim (Q.Queue.meaning self.old.below)) item ≡ Some key → Lowest (whole self.old.current self.old.rim (Q.Queue.meaning self.old.below)) key → Takes (whole self.old.current self.old.rim (Q.Queue.meaning self.old.below)) item result (whole self.new.current self.new.rim (Q.Queue.meaning self.new.below)) }
+        ensures keeps { Q.Queue.sound self.old.below → WheelSound self.old.current self.old.rim (Q.Queue.meaning self.old.below) → key_of (whole self.old.current self.old.rim (Q.Queue.meaning self.old.below)) item ≡ Some key → Lowest (whole self.old.current self.old.rim (Q.Queue.meaning self.old.below)) key → Q.Queue.sound self.new.below × WheelSound self.new.current self.new.rim (Q.Queue.meaning self.new.below) }
     {
-        let number = self.rim.quotient(key);
-        self.turn(number);
+        if self.rim.key(item).is_some() {
+            let number = self.rim.quotient(key);
+            self.turn(number);
+        }
         self.below.take(item)
     }
 }

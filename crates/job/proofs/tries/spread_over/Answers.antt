@@ -1,4 +1,4 @@
-use Rattle.std.proofs.Common.{◌≡◌, length, sym, refl, ap, ◌∙◌, subst, arith}
+use Rattle.std.proofs.Common.{◌≡◌, length, sym, ap, ◌∙◌, subst, arith}
 use Rattle.chains.specs.Threads.{Chained}
 use Rattle.model.specs.State.{leaving}
 use Rattle.model.specs.Calls.{tries}
@@ -14,8 +14,8 @@ offset_bounds-legs-number g c = omega (arith, chain_there c.args.legs.now c.loop
 pub bounds-legs-number : goal.bounds-legs-number
 bounds-legs-number g c = chain_there c.args.legs.now c.loop-next.next c.in-Some.number c.loop-next.invariant.0 c.in-Some.is c.loop-next.invariant.1
 
-pub overflow_add-item : goal.overflow_add-item
-overflow_add-item g c =
+pub overflow_add-from : goal.overflow_add-from
+overflow_add-from g c =
     let there = chain_there c.args.legs.now c.loop-next.next c.in-Some.number c.loop-next.invariant.0 c.in-Some.is c.loop-next.invariant.1 in
     omega (arith, item_below c.args.points c.args.legs.now c.in-Some.number there c.args.from c.requires.within.0 c.requires.pair.0, few_pairs c.args.points c.requires.within.1.0)
 
@@ -52,10 +52,10 @@ loop-next-preserved g c =
       c.try_leg-fresh.ensures.same ∙ c.loop-next.invariant.4,
       (λ s. c.try_leg-fresh.ensures.keeps (c.loop-next.invariant.5 s)),
       (λ s. turn_desk c.args.points c.args.legs.now c.in-Some.number there (g.R.Rule.joined c.args.rule.now)
-          c.args.from c.args.value _ c.loop-next.invariant.0 first.0
+          c.args.from c.args.value c.join-key.result c.loop-next.invariant.0 first.0
           (desk c.loop-next.pairs (g.Q.Queue.meaning c.loop-next.queue))
           (desk c.try_leg-fresh.new.pairs (g.Q.Queue.meaning c.try_leg-fresh.new.queue))
-          _ c.requires.within.0 c.requires.pair.1.1.0 refl (c.try_leg-fresh.ensures.after (c.loop-next.invariant.5 s)) first.1
+          _ c.requires.within.0 c.requires.pair.1.1.0 c.join-key.ensures (c.try_leg-fresh.ensures.after (c.loop-next.invariant.5 s)) first.1
           (c.loop-next.invariant.6 s)),
     )
 

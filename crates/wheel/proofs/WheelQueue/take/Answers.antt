@@ -41,9 +41,9 @@ returns-then-is_lowest g c =
     let here = sym c.key.ensures ∙ c.in-Some.is in
     let waits = λ (s : Sound). key_in_rim q.current q.rim below s.1 c.args.item _ here in
     let lowest = λ (s : Sound). (c.is_lowest.ensures s.0 s.1).0 c.if-is_lowest.true in
-    let cases = λ (s : Sound). c.draw.ensures.cases s.0 s.1 here (lowest s) in
+    let cases = λ (s : Sound). c.draw.ensures.cases s.0 s.1 (waits s) (lowest s) in
     record {
       cases = cases;
-      keeps = λ s. c.draw.ensures.keeps s.0 s.1 here (lowest s);
+      keeps = λ s. c.draw.ensures.keeps s.0 s.1 (waits s) (lowest s);
       same = λ s. not_refused before c.args.item _ (waits s) (lowest s) c.draw.result _ _ (cases s);
     }
