@@ -1,7 +1,7 @@
 #!/usr/bin/env python3
 """An independent oracle for halltable: a plain reading of the sheet rules and Floyd-Warshall, tried on made-up sheets.
 
-    tests/oracle.py target/bin/halltable [how many] [seed]
+    tests/oracle.py crates/halltable/out/halltable [how many] [seed]
 
 Half of the sheets are damaged: cut off, a byte changed, dropped or put in, lines swapped or repeated.
 Every answer is compared byte for byte, and the exit status too.

@@ -4,8 +4,7 @@
     tests/plant.py [CRATE | CRATE/LABEL ...]
 
 Each tests/planted/CRATE/LABEL.edit has three lines: file, old, new, as a must-fail edit has them. The bug is planted in a
-copy of the repository, where `rt dev CRATE` checks the crate. It is quicker than `rt must-fail`, which is the gate's own
-way, and takes over from an earlier `rt check` what it can.
+copy of the repository, where `rt check` checks the crate and begins with what an earlier check kept. No part of the gate.
 """
 import pathlib, re, shutil, subprocess, sys, tempfile, time
 
@@ -22,7 +21,7 @@ def parts(path):
 
 def first_error(log):
     for line in log.splitlines():
-        if re.search(r"error|it is not proved|not met", line):
+        if re.search(r"error|not proved|did not prove|not met", line) and not line.startswith("so far"):
             return re.sub(r"\s+", " ", line.replace("/crates/", " ").strip())[:150]
     return "no error line"
 
@@ -45,10 +44,10 @@ def main():
                 continue
             source.write_text(text.replace(old, new))
             begun = time.time()
-            run = subprocess.run(["timeout", "600", "rt", "dev", crate], cwd=copy, capture_output=True, text=True)
+            run = subprocess.run(["timeout", "600", "rt", "check"], cwd=copy / "crates" / crate, capture_output=True, text=True)
             log = run.stdout + run.stderr
             source.write_text(text)
-            passed = run.returncode == 0 and "logic=proved" in log
+            passed = run.returncode == 0
             survived += passed
             verdict = "STILL PROVED" if passed else "refused: " + first_error(log.replace(str(copy), ""))
             print(f"{crate}/{label}: {verdict} ({time.time() - begun:.0f} s)", flush=True)
