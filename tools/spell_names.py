@@ -24,7 +24,7 @@ def files(kind):
 def spelled(name):
     if name[0].isupper():
         return "".join(w[0].upper() + w[1:] for w in name.split("-"))
-    return name.replace("-", "_")
+    return name.replace("getD", "get_or").replace("-", "_")
 
 
 def imported(text):

@@ -14,9 +14,9 @@ length_put_at row (Some i) v = length-set row i v
 abbrev pub Misses : Option ℕ → List ℕ → Type 0
 Misses at xs = (b : ℕ) → at ≡ Some b → Mem b xs → ⊥
 
-pub getD_put_other : (row : List (Option ℕ)) (at v : Option ℕ) (j : ℕ) → ((b : ℕ) → at ≡ Some b → j ≡ b → ⊥) → get_or (put_at row at v) j None ≡ get_or row j None
-getD_put_other row None v j h = refl
-getD_put_other row (Some i) v j h = get_or-set_other row i j v None (h i refl)
+pub get_or_put_other : (row : List (Option ℕ)) (at v : Option ℕ) (j : ℕ) → ((b : ℕ) → at ≡ Some b → j ≡ b → ⊥) → get_or (put_at row at v) j None ≡ get_or row j None
+get_or_put_other row None v j h = refl
+get_or_put_other row (Some i) v j h = get_or-set_other row i j v None (h i refl)
 
 -- writes outside a list keep it
 pub chained_put : (nexts : List (Option ℕ)) (at v head : Option ℕ) (xs : List ℕ)
@@ -25,7 +25,7 @@ chained_put nexts at v head [] m h = h
 chained_put nexts at v head (x ∷ xs) m h = (
   h.0,
   subst (λ n. x < n) (sym (length_put_at nexts at v)) h.1,
-  subst (λ a. Chained (put_at nexts at v) a xs) (sym (getD_put_other nexts at v x (λ b e f. m b e (inl (sym f)))))
+  subst (λ a. Chained (put_at nexts at v) a xs) (sym (get_or_put_other nexts at v x (λ b e f. m b e (inl (sym f)))))
       (chained_put nexts at v (get_or nexts x None) xs (λ b e f. m b e (inr f)) h.2),
 )
 
@@ -33,7 +33,7 @@ pub backed_put : (prevs : List (Option ℕ)) (at v before : Option ℕ) (xs : Li
     → Misses at xs → Backed prevs before xs → Backed (put_at prevs at v) before xs
 backed_put prevs at v before [] m h = tt
 backed_put prevs at v before (x ∷ xs) m h = (
-  getD_put_other prevs at v x (λ b e f. m b e (inl (sym f))) ∙ h.0,
+  get_or_put_other prevs at v x (λ b e f. m b e (inl (sym f))) ∙ h.0,
   backed_put prevs at v (Some x) xs (λ b e f. m b e (inr f)) h.1,
 )
 
@@ -217,13 +217,13 @@ module _ (nexts prevs : List (Option ℕ)) (long : length prevs ≡ length nexts
       let lx : x < length (unlinked_nexts nexts prevs i) =
       subst (λ n. x < n) (sym (length_put_at nexts (get_or prevs i None) (get_or nexts i None))) h.1 in
       let px : get_or (unlinked_prevs nexts prevs i) x None ≡ before =
-      getD_put_other prevs (get_or nexts i None) (get_or prevs i None) x
+      get_or_put_other prevs (get_or nexts i None) (get_or prevs i None) x
       (λ c q u. d.0 (subst (λ j. Mem j xs) (sym u) (next_in nexts (get_or nexts x None) i c xs h.2 t q))) ∙ b.0 in
       let nx : get_or (unlinked_nexts nexts prevs i) x None ≡ relinked (get_or nexts x None) =
       elim (prev_in nexts prevs (Some x) (get_or nexts x None) i xs h.2 b.1 d.1 t) [
         | inl p ↦ ap (λ a. get_or (put_at nexts a (get_or nexts i None)) x None) p.1
             ∙ (get_or-set_same nexts x (get_or nexts i None) None h.1 ∙ sym (relinked_here (get_or nexts x None) p.0))
-        | inr p ↦ getD_put_other nexts (get_or prevs i None) (get_or nexts i None) x
+        | inr p ↦ get_or_put_other nexts (get_or prevs i None) (get_or nexts i None) x
             (λ c q u. d.0 (subst (λ j. Mem j xs) (same_some p.1 q ∙ sym u) p.2))
             ∙ sym (relinked_other (get_or nexts x None) p.3)
       ] in

@@ -19,14 +19,14 @@ length_entered : {A : Type 0} (n c : ℕ) (d x : A) (u : ℕ) → length (entere
 length_entered n c d x zero = length-replicate c d
 length_entered n c d x (suc u) = length-set (entered n c d x u) (u * n + u) x ∙ length_entered n c d x u
 
-getD_all : {A : Type 0} (c i : ℕ) (d : A) → get_or (replicate c d) i d ≡ d
-getD_all zero i d = refl
-getD_all (suc c) zero d = refl
-getD_all (suc c) (suc i) d = getD_all c i d
+get_or_all : {A : Type 0} (c i : ℕ) (d : A) → get_or (replicate c d) i d ≡ d
+get_or_all zero i d = refl
+get_or_all (suc c) zero d = refl
+get_or_all (suc c) (suc i) d = get_or_all c i d
 
 -- a pair that has not entered
 not_entered : {A : Type 0} (n c : ℕ) (d x : A) (u v : ℕ) → u ≤ v → get_or (entered n c d x u) (v * n + v) d ≡ d
-not_entered n c d x zero v h = getD_all c (v * n + v) d
+not_entered n c d x zero v h = get_or_all c (v * n + v) d
 not_entered n c d x (suc u) v h =
     let more : u * n ≤ v * n = mul-le-mul_right n (omega arith) in
     let other : (v * n + v) ≢ (u * n + u) = omega arith in

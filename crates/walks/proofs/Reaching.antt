@@ -116,8 +116,8 @@ module _ (h : Hall) (join : ℕ → ℕ → ℕ) (reach : ℕ → ℕ) (lawful :
           never new y p = clash new (settles u v y p).1
 
           empty : (o : Option ℕ) → s.settled u v ≡ o → ((y : ℕ) → Worth h join u v y → ⊥) → s.settled u v ≡ None
-          empty None e no_Walk = e
-          empty (Some x) e no_Walk = absurd (no_Walk x (has_walk free front u v x e))
+          empty None e no_walk = e
+          empty (Some x) e no_walk = absurd (no_walk x (has_walk free front u v x e))
 
           none : ((y : ℕ) → Worth h join u v y → ⊥) → s.settled u v ≡ None
           none = empty (s.settled u v) refl

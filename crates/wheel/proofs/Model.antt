@@ -10,7 +10,7 @@ use Rattle.wheel.specs.Joined.{either_key, joined, wheel_meaning, Agree}
 use Rattle.queue.proofs.Meanings.{none_in_replicate}
 use Rattle.chains.proofs.Threads.{none_some}
 use Rattle.chains.proofs.Slots.{some_lt}
-use Rattle.wheel.specs.Banded.{length_joined, getD_joined, none_read, key_of_wheel, from_rim, from_below, splits}
+use Rattle.wheel.specs.Banded.{length_joined, get_or_joined, none_read, key_of_wheel, from_rim, from_below, splits}
 use Rattle.wheel.proofs.Rows.{joined_set}
 
 -- the rows after a write at i, read at j
@@ -35,7 +35,7 @@ unchanged ks i none = ap (λ o. set ks i o) (sym none) ∙ set-get_or ks i None
 pub joined_none : (base : ℕ) (ks bs : List (Option ℕ)) → ((i : ℕ) → get_or bs i None ≡ None) → joined base ks bs ≡ ks
 joined_none base ks bs none = ext_get_or None (joined base ks bs) ks (length_joined base ks bs)
     (λ i l. let h : i < length ks = (let e = length_joined base ks bs in omega arith) in
-    getD_joined base ks bs i h ∙ ap (λ o. either_key base (get_or ks i None) o) (none i) ∙ only (get_or ks i None))
+    get_or_joined base ks bs i h ∙ ap (λ o. either_key base (get_or ks i None) o) (none i) ∙ only (get_or ks i None))
   where
     only : (o : Option ℕ) → either_key base o None ≡ o
     only None = refl

@@ -19,13 +19,13 @@ length_joined base [] bs = refl
 length_joined base (k ∷ ks) [] = ap suc (length_joined base ks [])
 length_joined base (k ∷ ks) (b ∷ bs) = ap suc (length_joined base ks bs)
 
-pub getD_joined : (base : ℕ) (ks bs : List (Option ℕ)) (i : ℕ) → i < length ks
+pub get_or_joined : (base : ℕ) (ks bs : List (Option ℕ)) (i : ℕ) → i < length ks
     → slice_index_or (joined base ks bs) i None ≡ either_key base (slice_index_or ks i None) (slice_index_or bs i None)
-getD_joined base [] bs i h = absurd (omega arith)
-getD_joined base (k ∷ ks) [] zero h = refl
-getD_joined base (k ∷ ks) [] (suc i) h = getD_joined base ks [] i (omega arith)
-getD_joined base (k ∷ ks) (b ∷ bs) zero h = refl
-getD_joined base (k ∷ ks) (b ∷ bs) (suc i) h = getD_joined base ks bs i (omega arith)
+get_or_joined base [] bs i h = absurd (omega arith)
+get_or_joined base (k ∷ ks) [] zero h = refl
+get_or_joined base (k ∷ ks) [] (suc i) h = get_or_joined base ks [] i (omega arith)
+get_or_joined base (k ∷ ks) (b ∷ bs) zero h = refl
+get_or_joined base (k ∷ ks) (b ∷ bs) (suc i) h = get_or_joined base ks bs i (omega arith)
 
 -- an item that no key is read of does not wait
 pub none_read : (o : Option ℕ) → ((k : ℕ) → o ≢ Some k) → o ≡ None
@@ -40,7 +40,7 @@ either_way (Some k) = inr (k, refl)
 module _ (from base w : ℕ) (ks : List (Option ℕ)) (b : Meaning) (agree : Agree from base w ks b) where
   -- what the wheel answers of an item
   pub key_of_wheel : (i : ℕ) → key_of (wheel_meaning base w ks b) i ≡ either_key base (slice_index_or ks i None) (key_of b i)
-  key_of_wheel i = ⊎_elim (λ l. getD_joined base ks b.waits i l)
+  key_of_wheel i = ⊎_elim (λ l. get_or_joined base ks b.waits i l)
       (λ g. let past = get_or_past (joined base ks b.waits) i None (let e = length_joined base ks b.waits in omega arith) in
       let none_rim = get_or_past ks i None g in
       let none_below : key_of b i ≡ None = none_read (key_of b i) (λ k q. let z = agree.inside i k q in omega arith) in

@@ -1,6 +1,6 @@
 -- Queues as they are made: their trials, openings on them, and offers to a ring.
 -- Assumes nothing.
-use Rattle.std.proofs.Common.{◌≡◌, ℕ, ◌+◌, ◌-◌, ◌*◌, ◌<◌, min, Bool, true, false, cond, ◌&&◌, ltb, leb, [], replicate, is_ok as isOk, Some, None, Ok, Err, Option, Result, sym, refl, ap, ◌∙◌, subst, inl, inr, arith}
+use Rattle.std.proofs.Common.{◌≡◌, ℕ, ◌+◌, ◌-◌, ◌*◌, ◌<◌, min, Bool, true, false, cond, ◌&&◌, ltb, leb, [], replicate, is_ok, Some, None, Ok, Err, Option, Result, sym, refl, ap, ◌∙◌, subst, inl, inr, arith}
 use lib.ListN.{length-map, length-replicate}
 use Rattle.std.proofs.lemmas.Bool.{both_ways, and_parts, and_from, and_cases, and_left, and_right, leb-true, leb-false, le-leb, lt-leb, ltb-true, ltb-false, lt-ltb, le-ltb}
 use Rattle.figures.specs.Limits.{value_limit, cell_limit, width_limit}
@@ -97,18 +97,18 @@ abbrev outcome : Bool → Result (Unit {0}) OutOfRange
 outcome true = Ok tt
 outcome false = Err (record {})
 
-number : (r : Result (Unit {0}) OutOfRange) → trial_number r ≡ answer (isOk r)
+number : (r : Result (Unit {0}) OutOfRange) → trial_number r ≡ answer (is_ok r)
 number (Ok x) = refl
 number (Err e) = refl
 
 -- a trial that answers by a test
-decided : (P : Result (Unit {0}) OutOfRange → Type 0) (b : Bool) → P (outcome b) → ((r : Result (Unit {0}) OutOfRange) → P r → isOk r ≡ b) →
+decided : (P : Result (Unit {0}) OutOfRange → Type 0) (b : Bool) → P (outcome b) → ((r : Result (Unit {0}) OutOfRange) → P r → is_ok r ≡ b) →
     Surely P (λ r. trial_number r ≡ answer b)
 decided P b some each = ((outcome b, some), λ r p. number r ∙ ap answer (each r p))
 
-is_ok : (b : Bool) → isOk (outcome b) ≡ b
-is_ok true = refl
-is_ok false = refl
+ok_is : (b : Bool) → is_ok (outcome b) ≡ b
+ok_is true = refl
+ok_is false = refl
 
 heap_makes : (n : ℕ) (t : Bool) → (leb 1 n && leb n cell_limit) ≡ t → HeapTried n (outcome t)
 heap_makes n true e = let (low, high) = and_parts (leb 1 n) (leb n cell_limit) e in (leb-true 1 n low, leb-true n cell_limit high)
@@ -117,7 +117,7 @@ heap_makes n false e = elim (and_cases (leb 1 n) (leb n cell_limit) e) [
   | inr high ↦ inr (leb-false n cell_limit high)
 ]
 
-heap_is : (n : ℕ) (r : Result (Unit {0}) OutOfRange) → HeapTried n r → isOk r ≡ (leb 1 n && leb n cell_limit)
+heap_is : (n : ℕ) (r : Result (Unit {0}) OutOfRange) → HeapTried n r → is_ok r ≡ (leb 1 n && leb n cell_limit)
 heap_is n (Ok x) (some, few) = sym (and_from (leb 1 n) (leb n cell_limit) (le-leb 1 n some) (le-leb n cell_limit few))
 heap_is n (Err e) (inl none) = sym (and_left (leb 1 n) (leb n cell_limit) (lt-leb 1 n (omega arith)))
 heap_is n (Err e) (inr many) = sym (and_right (leb 1 n) (leb n cell_limit) (lt-leb n cell_limit many))
@@ -126,14 +126,14 @@ wheel_makes : (w band : ℕ) (t : Bool) → wheel_fits w band ≡ t → WheelTri
 wheel_makes w band true e = good w band e
 wheel_makes w band false e = bad w band e
 
-wheel_is : (w band : ℕ) (r : Result (Unit {0}) OutOfRange) → WheelTried w band r → (t : Bool) → wheel_fits w band ≡ t → isOk r ≡ t
+wheel_is : (w band : ℕ) (r : Result (Unit {0}) OutOfRange) → WheelTried w band r → (t : Bool) → wheel_fits w band ≡ t → is_ok r ≡ t
 wheel_is w band (Ok x) f true e = refl
 wheel_is w band (Ok x) f false e = absurd (bad w band e f)
 wheel_is w band (Err x) none true e = absurd (none (good w band e))
 wheel_is w band (Err x) none false e = refl
 
 pub trying : (q : Kind) → Holds (tries q (answer (passes q)))
-trying (ring slots cells) = decided (Trial (ring slots cells)) (fits slots cells) (is_ok (fits slots cells)) (λ r p. p)
+trying (ring slots cells) = decided (Trial (ring slots cells)) (fits slots cells) (ok_is (fits slots cells)) (λ r p. p)
 trying (heap cells) =
     decided (Trial (heap cells)) (leb 1 cells && leb cells cell_limit) (heap_makes cells (leb 1 cells && leb cells cell_limit) refl)
     (heap_is cells)
