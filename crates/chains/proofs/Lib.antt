@@ -1,3 +1,4 @@
 pub mod Rows
 pub mod Threads
 pub mod Slots
+pub mod Keys

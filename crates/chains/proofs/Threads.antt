@@ -38,7 +38,7 @@ backed_put prevs at v before (x ∷ xs) m h = (
 )
 
 pub none_some : {o : Option ℕ} {x : ℕ} → o ≡ None → o ≡ Some x → ⊥
-none_some p q = let z : ◌≡◌ {A = ℕ} 0 1 = cc in omega arith
+none_some p q = cc
 
 pub same_some : {o : Option ℕ} {x y : ℕ} → o ≡ Some x → o ≡ Some y → x ≡ y
 same_some p q = cc

@@ -1,3 +1,4 @@
 pub mod Links
 pub mod Threads
 pub mod Slots
+pub mod Cells

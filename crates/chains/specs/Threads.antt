@@ -5,6 +5,7 @@
 --   Chained   the next links lead from a head through a list, and end there
 --   Backed    the previous links lead back through the list
 -- Singly linked elements make `Chained` lists; doubly linked ones make lists that are `Backed` too.
+-- Mem and Distinct go along the list, as Chained does; std's Contains goes by places, and its IsDistinct takes a test.
 use Rattle.std.specs.Prelude.{◌≡◌, ℕ, ◌<◌, cond, ◌⊎◌, List, [], ◌∷◌, length, Some, None, Option, ◌==◌, slice_index_or}
 
 abbrev pub Mem : ℕ → List ℕ → Type 0

@@ -5,11 +5,15 @@
 //
 // A call is stated over three rows of the slice: the next links, the previous links, and the bare elements, which are
 // what is left of the elements when their links are ignored. It promises each row after the call, exactly, and touches
-// nothing but links.
+// nothing but links; `entered` and `left` write an item's key too, and promise the row of keys.
 #![tactic(auto)]
 
 ghost use Rattle.std.specs.Prelude.{◌≡◌, ℕ, map, None, Option, slice_index_or, slice_set};
 ghost use Rattle.chains.specs.Links.{put_at, onward, fronted, fronted_prevs, unlinked, unlinked_nexts, unlinked_prevs};
+
+mod cells;
+
+pub use cells::Cell;
 
 // An element that can lie in one chain.
 pub trait Linked {
@@ -42,32 +46,26 @@ pub trait DoublyLinked: Linked {
         ensures same { Self.Linked.bare self.new ≡ Self.Linked.bare self.old };
 }
 
-// A chain, by its first element.
+// A chain, by its first element. Links are indices, since the elements lie in memory that the caller lends.
 #[derive(Clone, Copy, PartialEq, Eq, Debug)]
 pub struct Chain {
     first: Option<usize>,
 }
 
+// Next and previous links are read and written by twins: one text for both would take the method and its row as arguments.
+
 // The next link of the element at a place, none past the end.
 fn next_at<T: Linked>(elements: &[T], i: usize) -> Option<usize>
     ensures { result ≡ slice_index_or (map T.Linked.link elements.now) i None }
 {
-    if i < elements.len() {
-        elements[i].next()
-    } else {
-        None
-    }
+    elements.get(i)?.next()
 }
 
 // The previous link of the element at a place, none past the end.
 fn prev_at<T: DoublyLinked>(elements: &[T], i: usize) -> Option<usize>
     ensures { result ≡ slice_index_or (map T.Linked.back elements.now) i None }
 {
-    if i < elements.len() {
-        elements[i].prev()
-    } else {
-        None
-    }
+    elements.get(i)?.prev()
 }
 
 // The head of a chain once element `i` is put in front of it.
@@ -81,13 +79,12 @@ fn front<T: Linked>(elements: &[T], i: usize, head: Option<usize>) -> Option<usi
 fn bypass<T: DoublyLinked>(elements: &[T], i: usize, head: Option<usize>) -> Option<usize>
     ensures { result ≡ unlinked (map T.Linked.link elements.now) (map T.Linked.back elements.now) i head }
 {
-    if i < elements.len() {
-        match prev_at(elements, i) {
-            Some(_) => head,
-            None => next_at(elements, i),
-        }
-    } else {
-        head
+    let Some(element) = elements.get(i) else {
+        return head;
+    };
+    match element.prev() {
+        Some(_) => head,
+        None => element.next(),
     }
 }
 
@@ -98,6 +95,7 @@ fn link_next<T: Linked>(elements: &mut [T], at: Option<usize>, next: Option<usiz
     ensures same { map T.Linked.bare elements.new ≡ map T.Linked.bare elements.old }
 {
     if let Some(i) = at {
+        // By index: of a slice's `get_mut` a proof knows the length alone, so the rows stayed open.
         if i < elements.len() {
             elements[i].set_next(next);
         }
@@ -111,6 +109,7 @@ fn link_prev<T: DoublyLinked>(elements: &mut [T], at: Option<usize>, prev: Optio
     ensures same { map T.Linked.bare elements.new ≡ map T.Linked.bare elements.old }
 {
     if let Some(i) = at {
+        // By index, as above.
         if i < elements.len() {
             elements[i].set_prev(prev);
         }
@@ -144,15 +143,13 @@ impl Chain {
         self.first
     }
 
-    // The chain from its second element on: a step of a walk. Constant time.
+    // The chain from its second element on: a step of a walk. Constant time. No iterator of chains is made, since std's
+    // `successors` over `next`, cut off by `take`, is one.
     pub fn rest<T: Linked>(self, elements: &[T]) -> Chain
         ensures { result.first ≡ onward (map T.Linked.link elements.now) self.first }
     {
-        match self.first {
-            Some(at) => Chain {
-                first: next_at(elements, at),
-            },
-            None => self,
+        Chain {
+            first: self.first.and_then(|at| next_at(elements, at)),
         }
     }
 

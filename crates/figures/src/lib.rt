@@ -23,11 +23,11 @@ pub const WIDTH_LIMIT: u32 = 4_096;
 #[derive(Clone, Copy, PartialEq, Eq, Debug)]
 pub struct OutOfRange;
 
-impl OutOfRange {
-    // The refusal's number.
-    pub fn number(self) -> u32
-        ensures { result ≡ out_of_range_number }
-    {
+// The refusal's number.
+impl From<OutOfRange> for u32 {
+    ghost from_gives = { λ _ n. n ≡ out_of_range_number };
+
+    fn from(_refusal: OutOfRange) -> u32 {
         9
     }
 }

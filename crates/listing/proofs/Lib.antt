@@ -1,5 +1,3 @@
-mod Buffer
 mod Decimal
-mod Front
 mod Lines
 mod Rows

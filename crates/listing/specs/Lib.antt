@@ -1,2 +1,5 @@
 pub mod Listing
 pub mod Buffer
+pub mod Laws
+pub mod Sinks
+pub mod Proved

@@ -1,89 +1,82 @@
 -- The figures of a field.
-use Rattle.std.proofs.Common.{◌≡◌, ℕ, ◌+◌, ◌-◌, ◌<◌, ◌≤◌, true, ◌⊎◌, List, [], ◌∷◌, length, get_or, take, drop, sym, ap, ◌∙◌, subst, inl, inr, ⊎_elim, arith, length-drop}
-use Rattle.std.proofs.lemmas.List.{drop_more, take-append-drop, length-take-le, get_or-take, get_or-drop}
-use Rattle.std.proofs.ByRecursion.{All-from_get_or}
-use Rattle.std.proofs.lemmas.List.Prefix.{at_reads}
+use Rattle.std.proofs.Common.{◌≡◌, ℕ, ◌+◌, ◌-◌, ◌<◌, ◌≤◌, true, false, List, ◌∷◌, ◌++◌, length, get_or, take, drop, sym, ap, ◌∙◌, subst, inl, inr, ⊎_elim, arith, rules, length-take}
+use Rattle.std.specs.List.{prefix_len, take_while}
+use Rattle.std.specs.Char.{is_ascii_digit}
+use Rattle.std.proofs.lemmas.List.{take-append-drop, length-take-le, get_or-take, drop_more, drop_all, drop-drop}
+use Rattle.std.proofs.lemmas.List.Sums.{prefix_len_passes, prefix_len_stops, prefix_len-le-length}
+use Rattle.std.proofs.lemmas.List.Folds.{length-prefix_len}
 use Rattle.std.proofs.lemmas.Bool.{cases_lt}
-use Rattle.sheet.specs.Form.{Figure}
+use Rattle.std.proofs.ByRecursion.{All-from_get_or, All-get_or}
+use Rattle.sheet.specs.Form.{Begins, Figure}
 use Rattle.sheet.specs.Reading.{BadField}
-use Rattle.sheet.specs.Steps.{Run, Passed, left, FigureNext}
+use Rattle.sheet.specs.Steps.{left, Passed, LeadingFigures, AsWritten, FiguresTaken}
 use Rattle.sheet.specs.declared.steps.Cursor.{Cursor}
 use Rattle.sheet.specs.declared.steps.Place.TheVariants.{Field}
+use Rattle.sheet.proofs.Spelling.{plain_figures}
 
-below_next : (k n : ℕ) → k < n + 1 → (k < n) ⊎ (k ≡ n)
-below_next k n h = ⊎_elim (λ lt. inl lt) (λ ge. inr (omega arith)) (cases_lt k n)
+figure_told : (b : ℕ) → is_ascii_digit b ≡ true → Figure b
+figure_told b h = search rules
 
-below_six : (i : ℕ) → i < 6 → (i < 5) ⊎ (i ≡ 5)
-below_six i h = below_next i 5 h
+not_figure : (b : ℕ) → is_ascii_digit b ≡ false → Figure b → ⊥
+not_figure b h f = search rules
 
--- a 0 and then a figure
-pub bad_zero : (sheet : List ℕ) (at : ℕ) → at + 1 < length sheet → get_or sheet at 0 ≡ 48 → Figure (get_or sheet (at + 1) 0) → BadField (drop at sheet)
-bad_zero sheet at h z f =
-    let l : at < length sheet = omega arith in
-    let d1 = drop_more sheet at 0 l in
-    let d2 = drop_more sheet (at + 1) 0 h in
-    inr (inl (get_or sheet (at + 1) 0, drop (at + 1 + 1) sheet, cc, f))
-
--- six figures
-pub bad_six : (sheet : List ℕ) (at : ℕ) → at + 5 < length sheet → ((k : ℕ) → at ≤ k → k < at + 5 → Figure (get_or sheet k 0)) → Figure (get_or sheet (at + 5) 0) → BadField (drop at sheet)
-bad_six sheet at h five six =
-    let bs = drop at sheet in
-    let l : 6 ≤ length bs = omega (arith, length-drop at sheet) in
-    inr (inr (
-      take 6 bs,
-      drop 6 bs,
-      sym (take-append-drop 6 bs),
-      length-take-le 6 bs l,
-      All-from_get_or Figure (take 6 bs) 0
-          (λ i lt.
-          let i6 : i < 6 = omega (arith, length-take-le 6 bs l) in
-          let e : get_or (take 6 bs) i 0 ≡ get_or sheet (at + i) 0 = get_or-take 6 bs i 0 i6 ∙ get_or-drop at sheet i 0 in
-          subst Figure (sym e)
-          (⊎_elim (λ (lt5 : i < 5). five (at + i) (omega arith) (omega arith)) (λ (e5 : i ≡ 5). subst (λ k. Figure (get_or sheet (at + k) 0)) (sym e5) six) (below_six i i6))),
-    ))
-
--- the first figure
-pub run_one : (c d : Cursor) → c.place ≡ Field → Passed c.place c d → Run d.sheet.now c.at d.at
-run_one c d p h =
-    let h' : Passed Field c d = subst (λ q. Passed q c d) p h in
-    let m = h'.1 in
-    let a : d.at ≡ c.at + 1 = m.along in
-    let g : get_or c.sheet.now (c.at + 0) 0 ≡ h'.0 = at_reads 0 c.sheet.now (h'.0 ∷ []) c.at (left d) m.bytes 0 (omega arith) in
-    subst (λ s. Run s c.at d.at) (sym m.same)
+-- the bytes that pass are the figures that lead
+pub leading : (bs : List ℕ) (n : ℕ) → n ≡ length (take_while is_ascii_digit (take 6 bs)) → LeadingFigures bs n
+leading bs n h =
+    let e : n ≡ prefix_len is_ascii_digit (take 6 bs) = h ∙ length-prefix_len is_ascii_digit (take 6 bs) in
+    let l = prefix_len-le-length is_ascii_digit (take 6 bs) in
+    let m : length (take 6 bs) ≤ length bs = omega (arith, length-take 6 bs) in
     record {
-      some = omega arith;
-      five = omega arith;
-      within = m.within;
-      each = λ k lo hi. let e : c.at + 0 ≡ k = omega arith in subst Figure (sym g ∙ ap (λ i. get_or c.sheet.now i 0) e) h'.2;
-      plain = λ _. a;
-    }
-
--- one more figure
-pub run_more : (sheet : List ℕ) (from to : ℕ) → Run sheet from to → (get_or sheet from 0 ≡ 48 → ⊥) → to < from + 5 → to < length sheet → Figure (get_or sheet to 0) → Run sheet from (to + 1)
-run_more sheet from to r nz h l f =
-    let s = r.some in
-    record {
-      some = omega arith;
-      five = omega arith;
       within = omega arith;
-      each = λ k lo hi. ⊎_elim (λ (lt : k < to). r.each k lo lt) (λ (e : k ≡ to). subst (λ i. Figure (get_or sheet i 0)) (sym e) f) (below_next k to hi);
-      plain = λ z. absurd (nz z);
+      few = omega (arith, length-take 6 bs);
+      all =
+          All-from_get_or Figure (take n bs) 0
+          (λ i h.
+          let k : length (take n bs) ≡ n = length-take-le n bs (omega (arith, length-take 6 bs)) in
+          let t : is_ascii_digit (get_or (take 6 bs) i 0) ≡ true = prefix_len_passes is_ascii_digit (take 6 bs) i 0 (omega arith) in
+          figure_told _ (ap is_ascii_digit (get_or-take n bs i 0 (omega arith) ∙ sym (get_or-take 6 bs i 0 (omega (arith, length-take 6 bs)))) ∙ t));
+      ends = λ six b.
+          ⊎_elim
+          (λ (more : n < length bs).
+          let s : is_ascii_digit (get_or (take 6 bs) (prefix_len is_ascii_digit (take 6 bs)) 0) ≡ false = prefix_len_stops is_ascii_digit (take 6 bs) 0 (omega (arith, length-take 6 bs)) in
+          not_figure (get_or bs n 0) (ap is_ascii_digit (sym (get_or-take 6 bs n 0 six)) ∙ (ap (λ i. is_ascii_digit (get_or (take 6 bs) i 0)) e ∙ s)) (subst (λ l. Begins Figure l) (drop_more bs n 0 more) b))
+          (λ (past : length bs ≤ n). subst (λ l. Begins Figure l) (drop_all n bs past) b)
+          (cases_lt n (length bs));
     }
 
--- a figure too many
-pub bad_figures : (c d e : Cursor) → c.place ≡ Field → Passed c.place c d → e.sheet.now ≡ d.sheet.now → Run (d.sheet.now) c.at e.at → FigureNext e true → (get_or (e.sheet.now) c.at 0 ≡ 48) ⊎ (e.at - c.at ≡ 5) → BadField (left c)
-bad_figures c d e p h same run next or =
-    let h' : Passed Field c d = subst (λ q. Passed q c d) p h in
-    let s : e.sheet.now ≡ c.sheet.now = same ∙ h'.1.same in
-    let n : (e.at < length (c.sheet.now)) × Figure (get_or (c.sheet.now) e.at 0) = subst (λ x. (e.at < length x) × Figure (get_or x e.at 0)) s next in
-    let r : Run (c.sheet.now) c.at e.at = subst (λ x. Run x c.at e.at) h'.1.same run in
-    ⊎_elim
-    (λ (z : get_or (e.sheet.now) c.at 0 ≡ 48).
-    let z' : get_or (c.sheet.now) c.at 0 ≡ 48 = subst (λ x. get_or x c.at 0 ≡ 48) s z in
-    let a : e.at ≡ c.at + 1 = r.plain z' in
-    bad_zero (c.sheet.now) c.at (subst (λ i. i < length (c.sheet.now)) a n.0) z' (subst (λ i. Figure (get_or (c.sheet.now) i 0)) a n.1))
-    (λ (z : e.at - c.at ≡ 5).
-    let some = r.some in
-    let a : e.at ≡ c.at + 5 = omega arith in
-    bad_six (c.sheet.now) c.at (subst (λ i. i < length (c.sheet.now)) a n.0) (subst (λ i. (k : ℕ) → c.at ≤ k → k < i → Figure (get_or (c.sheet.now) k 0)) a r.each) (subst (λ i. Figure (get_or (c.sheet.now) i 0)) a n.1))
-    or
+-- no figure, or a 0 and one more figure, or six
+pub bad_figures : (bs : List ℕ) (n : ℕ) → LeadingFigures bs n → AsWritten (take n bs) false → BadField bs
+bad_figures bs n l (inl none) =
+    let z : n ≡ 0 = sym (length-take-le n bs l.within) ∙ none in
+    inl (subst (λ i. Begins Figure (drop i bs) → ⊥) z (l.ends (omega arith)))
+bad_figures bs n l (inr (inl (two, lead))) =
+    let k : length (take n bs) ≡ n = length-take-le n bs l.within in
+    let some : 0 < length bs = omega (arith, l.within) in
+    let more : 1 < length bs = omega (arith, l.within) in
+    let e : bs ≡ 48 ∷ drop 1 bs = drop_more bs 0 0 some ∙ ap (λ b. b ∷ drop 1 bs) (sym (get_or-take n bs 0 0 (omega arith)) ∙ lead) in
+    let d : drop 1 bs ≡ get_or bs 1 0 ∷ drop 2 bs = drop_more bs 1 0 more in
+    let f : Figure (get_or (take n bs) 1 0) = All-get_or Figure (take n bs) 1 0 two l.all in
+    inr (inl (get_or bs 1 0, drop 2 bs, e ∙ ap (λ x. 48 ∷ x) d, subst Figure (get_or-take n bs 1 0 (omega arith)) f))
+bad_figures bs n l (inr (inr six)) =
+    let k : length (take n bs) ≡ n = length-take-le n bs l.within in
+    inr (inr (take n bs, drop n bs, sym (take-append-drop n bs), omega (arith, l.few), l.all))
+
+-- one to five figures, only one where the first is 0
+pub figures_taken : (c d e : Cursor) (bs : List ℕ) (n : ℕ) → bs ≡ left c → c.place ≡ Field → Passed c.place c d → LeadingFigures bs n → AsWritten (take n bs) true → e.sheet.now ≡ d.sheet.now → e.at ≡ d.at + (length (take n bs) - 1) → FiguresTaken c (take n bs) e
+figures_taken c d e bs n is place first l (some, few, lead) same along =
+    let m = (subst (λ p. Passed p c d) place first).1 in
+    let k : length (take n bs) ≡ n = length-take-le n bs l.within in
+    let at : e.at ≡ c.at + n = omega (arith, m.along) in
+    let rest : left e ≡ drop n bs =
+    ap (λ s. drop e.at s) (same ∙ m.same) ∙ (ap (λ i. drop i c.sheet.now) at ∙ (sym (drop-drop n c.at c.sheet.now) ∙ ap (λ x. drop n x) (sym is))) in
+    let plain = plain_figures (take n bs) l.all some few lead in
+    record {
+      small = plain.small;
+      plain = plain.written;
+      moved = record {
+        same = same ∙ m.same;
+        along = omega arith;
+        bytes = sym is ∙ (sym (take-append-drop n bs) ∙ ap (λ x. take n bs ++ x) (sym rest));
+      };
+      ends = λ b. l.ends (omega arith) (subst (λ x. Begins Figure x) rest b);
+    }

@@ -1,6 +1,3 @@
-pub mod Classes
-pub mod Walks
-pub mod Marks
 pub mod Figures
 pub mod Spelling
 pub mod Tails

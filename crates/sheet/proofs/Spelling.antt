@@ -1,16 +1,17 @@
 -- Figures and the numbers that they spell.
-use Rattle.std.proofs.Common.{◌≡◌, ℕ, ◌+◌, ◌-◌, ◌*◌, ◌%◌, ◌<◌, ◌≤◌, List, ◌++◌, map, length, get_or, take, drop, decimal, sym, refl, ap, ◌∙◌, subst, mod-eq_of_lt, arith, length-drop}
+use Rattle.std.proofs.Common.{◌≡◌, ℕ, zero, suc, [], ◌∷◌, add-one, mod-lt, Bor, Iter, fold, zero-add, ◌+◌, ◌-◌, ◌*◌, ◌%◌, ◌<◌, ◌≤◌, List, ◌++◌, map, length, get_or, decimal, sym, refl, ap, ◌∙◌, subst, mod-eq_of_lt, arith}
 use native.Mathlib.Nat.{add-mod_right}
+use Rattle.std.specs.Iterator.{Yields}
+use Rattle.std.specs.Slice.Iter.{iter_rest}
+use Rattle.std.proofs.lemmas.Fn.{fronts}
 use Rattle.std.specs.Int.{IsInRange}
 use Rattle.std.specs.List.{AllByRecursion}
 use Rattle.std.specs.Int.Digits.{number_from_digits, number_from_digits_after}
-use Rattle.std.proofs.lemmas.List.{take_all, length-take-le, get_or-take, get_or-drop, take-append-drop, drop-drop}
-use Rattle.std.proofs.ByRecursion.{All-from_get_or}
+use Rattle.std.proofs.lemmas.List.{length_push, take_all}
 use Rattle.std.proofs.lemmas.Str.Parse.{IsNumeralModel, numerals_by_fold, digits_value_short}
-use Rattle.std.proofs.lemmas.Fmt.{decimal-digits_value, digits_value-decimal, length-decimal-le}
+use Rattle.std.proofs.lemmas.Fmt.{decimal-digits_value}
 use Rattle.sheet.specs.Form.{Figure}
 use Rattle.sheet.specs.Numbers.{figure, spelled}
-use Rattle.sheet.specs.Steps.{Run}
 
 figure_is : (b : ℕ) → IsInRange 48 57 b → figure b ≡ b - 48
 figure_is b h =
@@ -28,12 +29,6 @@ own =
 spelled_short : (ds : List ℕ) → length ds ≤ 5 → spelled ds ≡ number_from_digits 10 (map figure ds)
 spelled_short ds h = ap (λ x. number_from_digits 10 (map figure x)) (take_all 5 ds h)
 
--- a number is what its figures spell
-pub spelled_decimal : (k : ℕ) → k < 100000 → spelled (decimal k) ≡ k
-spelled_decimal k h =
-    let l : length (decimal k) ≤ 5 = length-decimal-le 5 k (omega arith) h (omega arith) in
-    spelled_short (decimal k) l ∙ digits_value-decimal own k (omega arith)
-
 pub record Plain (ds : List ℕ) : Type 0 where
   pub written : ds ≡ decimal (spelled ds)
   pub small : spelled ds < 100000
@@ -46,30 +41,34 @@ plain_figures ds all some five lead =
     let d : decimal (number_from_digits 10 (map figure ds)) ≡ ds = decimal-digits_value own ds all some lead (omega arith) in
     record { written = sym (ap decimal e ∙ d); small = omega arith }
 
-pub record Cut (sheet : List ℕ) (from to : ℕ) (ds : List ℕ) : Type 0 where
-  pub plain : Plain ds
-  pub len : length ds ≡ to - from
-  pub split : drop from sheet ≡ ds ++ drop to sheet
+-- the most that k bytes and one more spell
+abbrev pub most : ℕ → ℕ
+most zero = 255
+most (suc k) = most k * 10 + 255
 
--- the figures that a run has
-pub run_cut : (sheet : List ℕ) (from to : ℕ) → Run sheet from to → Cut sheet from to (take (to - from) (drop from sheet))
-run_cut sheet from to r =
-    let n = to - from in
-    let bs = drop from sheet in
-    let some = r.some in
-    let five = r.five in
-    let within = r.within in
-    let l : n ≤ length bs = omega (arith, length-drop from sheet) in
-    let len : length (take n bs) ≡ n = length-take-le n bs l in
-    let at : (i : ℕ) → i < n → get_or (take n bs) i 0 ≡ get_or sheet (from + i) 0 = λ i h. get_or-take n bs i 0 h ∙ get_or-drop from sheet i 0 in
-    let e : from + n ≡ to = omega arith in
-    record {
-      plain =
-          plain_figures (take n bs)
-          (All-from_get_or Figure (take n bs) 0 (λ i h. let hi : i < n = omega arith in subst Figure (sym (at i hi)) (r.each (from + i) (omega arith) (omega arith))))
-          (omega arith)
-          (omega arith)
-          (λ z. let p : 0 < n = omega arith in let f : from + 0 ≡ from = omega arith in let q : get_or sheet from 0 ≡ 48 = ap (λ i. get_or sheet i 0) (sym f) ∙ (sym (at 0 p) ∙ z) in omega (arith, r.plain q));
-      len = len;
-      split = sym (take-append-drop n bs) ∙ ap (λ x. take n bs ++ x) (drop-drop n from sheet ∙ ap (λ i. drop i sheet) e);
-    }
+pub most_small : (k : ℕ) → k < 5 → most k ≤ 2833305
+most_small zero h = omega arith
+most_small (suc zero) h = omega arith
+most_small (suc (suc zero)) h = omega arith
+most_small (suc (suc (suc zero))) h = omega arith
+most_small (suc (suc (suc (suc zero)))) h = omega arith
+most_small (suc (suc (suc (suc (suc k))))) h = absurd (omega arith)
+
+pub most_push : (xs : List (Bor ℕ)) (x : Bor ℕ) (v n : ℕ) → n ≤ most (length xs) → v ≡ n * 10 + figure x.now → v ≤ most (length (xs ++ (x ∷ [])))
+most_push xs x v n h e =
+    let l : length (xs ++ (x ∷ [])) ≡ suc (length xs) = length_push xs x ∙ add-one (length xs) in
+    let b : figure x.now < 256 = mod-lt _ (omega arith) in
+    subst (λ k. v ≤ most k) (sym l) (omega arith)
+
+-- as many items came as are no longer left
+pub items_came : (xs : List (Bor ℕ)) (s t : Iter ℕ) → Yields fronts s xs t → length xs + length (iter_rest t) ≡ length (iter_rest s)
+items_came [] s t y = ap (λ x. 0 + length (iter_rest x)) (sym y) ∙ zero-add (length (iter_rest s))
+items_came (x ∷ xs) s t (j, h, y) = let e = items_came xs j t y in let k = ap length h in omega arith
+
+fold_digits : (fs : List ℕ) (n : ℕ) → fold (λ v b. v * 10 + figure b) n fs ≡ number_from_digits_after 10 n (map figure fs)
+fold_digits [] n = refl
+fold_digits (b ∷ fs) n = fold_digits fs (n * 10 + figure b)
+
+-- the fold is the number
+pub number_by_fold : (fs : List ℕ) (r : ℕ) → r ≡ fold (λ v b. v * 10 + figure b) 0 fs → r ≡ number_from_digits 10 (map figure fs)
+number_by_fold fs r h = h ∙ fold_digits fs 0

@@ -1,14 +1,19 @@
 -- The steps of the reader within a line, which its private functions take.
---   Classed       a byte is of a class; Sees is the class of the next byte
---   Turns         the move from a place, by the class of the next byte
---   left          what is left of the sheet
---   Moved c w d   from c to d the sheet's bytes are w
---   Passes        one step, past the byte that is due
---   MarkRead, FiguresRead, FieldRead, TailRead, TakesLine
---                 a mark, the figures of a field, a blank and a field, what follows a mark, and a whole line, each read
---                 or at fault
-use Rattle.std.specs.Prelude.{◌≡◌, ℕ, ◌+◌, ◌<◌, ◌≤◌, Bool, true, false, ◌⊎◌, List, [], ◌∷◌, ◌++◌, length, drop, Some, None, Ok, Err, Option, Result, ◌≢◌, slice_index, slice_index_or}
+--   Classed          a byte is of a class; Sees is the class of the next byte
+--   Turns            the move from a place, by the class of the next byte
+--   left             what is left of the sheet
+--   Moved c w d      from c to d the sheet's bytes are w
+--   Passes           one step, past the byte that is due
+--   LeadingFigures   how many figures begin the bytes, counted to six
+--   AsWritten        whether figures stand as a number is written
+--   MarkRead, FiguresRead, FieldRead, FieldsRead, TakesLine
+--                    a mark, the figures of a field, a blank and a field, the fields of a line, and a whole line, each
+--                    read or at fault
+use Rattle.std.specs.Prelude.{◌≡◌, ℕ, ◌+◌, ◌<◌, ◌≤◌, ◌⊎◌, Bool, true, false, List, [], ◌∷◌, ◌++◌, length, take, drop, decimal, Some, None, Ok, Err, Option, Result, ◌≢◌, slice_index}
+use Rattle.std.specs.Borrow.{Bor}
+use Rattle.std.specs.List.{AllByRecursion}
 use Rattle.sheet.specs.Form.{Begins, Figure, letters, width, field, fields, Fields, written}
+use Rattle.sheet.specs.Numbers.{spelled}
 use Rattle.sheet.specs.Records.{number_of, PartAt, kind_of, numbers, Parts}
 use Rattle.sheet.specs.Reading.{BadField, Due, NoMark, Broken, Counted, LineFaulty}
 use Rattle.sheet.specs.declared.Kind.{Kind}
@@ -76,7 +81,6 @@ left c = drop c.at c.sheet.now
 pub record Moved (c : Cursor) (w : List ℕ) (d : Cursor) : Type 0 where
   pub same : d.sheet.now ≡ c.sheet.now
   pub along : d.at ≡ c.at + length w
-  pub within : d.at ≤ length c.sheet.now
   pub bytes : left c ≡ w ++ left d
 
 -- one step: past a byte that is due, or nowhere at the close
@@ -99,47 +103,33 @@ abbrev pub Passes : Cursor → Place → Result (Unit {0}) FormFault → Cursor 
 Passes c then (Ok _) d = Passed c.place c d × (d.place ≡ next_place c.place then)
 Passes c then (Err f) d = (f ≡ fault_at c.place) × Stopped c.place (left c)
 
--- two letters are a mark
-abbrev pub Lettered : Kind → ℕ → ℕ → Type 0
-Lettered Start a b = (a ≡ 83) × (b ≡ 84)
-Lettered Leg a b = (a ≡ 76) × (b ≡ 71)
-Lettered End a b = (a ≡ 69) × (b ≡ 78)
-
--- two letters are a mark that is due, or not
-abbrev pub Marked : ℕ → ℕ → ℕ → Result Kind FormFault → Type 0
-Marked lines a b (Ok kind) = Due lines kind × Lettered kind a b
-Marked lines a b (Err f) =
-    (f ≡ NotMark) ×
-    (lines ≡ 0 → a ≡ 83 → b ≢ 84) ×
-    (0 < lines → a ≡ 76 → b ≢ 71) ×
-    (0 < lines → a ≡ 69 → b ≢ 78)
-
 -- a mark is read
 abbrev pub MarkRead : Cursor → ℕ → Result Kind FormFault → Cursor → Type 0
 MarkRead c lines (Ok kind) d = Due lines kind × Moved c (letters kind) d × (d.place ≡ Blank)
 MarkRead c lines (Err f) d = (f ≡ NotMark) × NoMark lines (left c)
 
--- whether a figure comes next
-abbrev pub FigureNext : Cursor → Bool → Type 0
-FigureNext c true = (c.at < length c.sheet.now) × Figure (slice_index c.sheet.now c.at)
-FigureNext c false = Begins Figure (left c) → ⊥
+-- n figures begin the bytes, six at most, and behind fewer there is no more
+pub record LeadingFigures (bs : List ℕ) (n : ℕ) : Type 0 where
+  pub within : n ≤ length bs
+  pub few : n ≤ 6
+  pub all : AllByRecursion Figure (take n bs)
+  pub ends : n < 6 → Begins Figure (drop n bs) → ⊥
 
--- the bytes of a sheet from one place to another are one to five figures, the first no 0 where more follow
-pub record Run (sheet : List ℕ) (from to : ℕ) : Type 0 where
-  pub some : from < to
-  pub five : to ≤ from + 5
-  pub within : to ≤ length sheet
-  pub each : (k : ℕ) → from ≤ k → k < to → Figure (slice_index sheet k)
-  pub plain : slice_index_or sheet from 0 ≡ 48 → to ≡ from + 1
+-- whether figures are as many as a number is written with, and no 0 leads others
+abbrev pub AsWritten : List ℕ → Bool → Type 0
+AsWritten ds true = (0 < length ds) × (length ds ≤ 5) × (slice_index ds 0 ≡ 48 → length ds ≡ 1)
+AsWritten ds false = (length ds ≡ 0) ⊎ (((1 < length ds) × (slice_index ds 0 ≡ 48)) ⊎ (5 < length ds))
 
--- whether a field is full, by its first figure and how many there are
-abbrev pub Full : ℕ → ℕ → Bool → Type 0
-Full first count true = (first ≡ 48) ⊎ (count ≡ 5)
-Full first count false = (first ≢ 48) × (count ≢ 5)
+-- the figures of a number are read, and no figure comes next
+pub record FiguresTaken (c : Cursor) (figures : List ℕ) (d : Cursor) : Type 0 where
+  pub small : spelled figures < 100000
+  pub plain : figures ≡ decimal (spelled figures)
+  pub moved : Moved c figures d
+  pub ends : Begins Figure (left d) → ⊥
 
-abbrev pub FiguresRead : Cursor → Result (Unit {0}) FormFault → Cursor → Type 0
-FiguresRead c (Ok _) d = (d.sheet.now ≡ c.sheet.now) × Run c.sheet.now c.at d.at × (Begins Figure (left d) → ⊥)
-FiguresRead c (Err f) d = (f ≡ NotField) × BadField (left c)
+abbrev pub FiguresRead : Cursor → Place → Result (Bor (List ℕ)) FormFault → Cursor → Type 0
+FiguresRead c then (Ok f) d = FiguresTaken c f.now d × (d.place ≡ then)
+FiguresRead c then (Err e) d = (e ≡ NotField) × BadField (left c)
 
 -- a field is read
 pub record FieldTaken (c : Cursor) (f : SheetField) (d : Cursor) : Type 0 where
@@ -160,28 +150,32 @@ abbrev pub FieldRead : Cursor → Place → Result SheetField FormFault → Curs
 FieldRead c then (Ok f) d = FieldTaken c f d × (d.place ≡ then)
 FieldRead c then (Err e) d = FieldFails (left c) e
 
--- where the reader is after a line
-abbrev pub place_after : Kind → Place
-place_after Start = Mark
-place_after Leg = Mark
-place_after End = Close
+-- the fields of some numbers are read
+pub record FieldsTaken (c : Cursor) (ks : List ℕ) (d : Cursor) : Type 0 where
+  pub small : Fields ks
+  pub moved : Moved c (fields ks) d
+  pub ends : 0 < length ks → Begins Figure (left d) → ⊥
 
--- the fields and the end of a line are read
-pub record TailTaken (kind : Kind) (c : Cursor) (r : Record) (d : Cursor) : Type 0 where
+-- the fields of a line are read
+pub record RecordTaken (kind : Kind) (c : Cursor) (r : Record) (d : Cursor) : Type 0 where
   pub kind_is : kind_of r ≡ kind
-  pub small : Fields (numbers r)
-  pub moved : Moved c (fields (numbers r) ++ (10 ∷ [])) d
+  pub taken : FieldsTaken c (numbers r) d
   pub parts : Parts c.sheet.now (c.at + 1) r
-  pub place : d.place ≡ place_after kind
 
-abbrev pub TailRead : Kind → Cursor → Result Record FormFault → Cursor → Type 0
-TailRead kind c (Ok r) d = TailTaken kind c r d
-TailRead kind c (Err f) d = Broken (width kind) (left c) f
+abbrev pub FieldsRead : Kind → Cursor → Result Record FormFault → Cursor → Type 0
+FieldsRead kind c (Ok r) d = RecordTaken kind c r d × (d.place ≡ LineEnd)
+FieldsRead kind c (Err f) d = Broken (width kind) (left c) f
 
 -- whether a record has the count that it should
 abbrev pub CountedBy : Record → ℕ → Bool → Type 0
 CountedBy r legs true = Counted (kind_of r) (numbers r) legs
 CountedBy r legs false = (kind_of r ≡ End) × ((m : ℕ) × (numbers r ≡ m ∷ []) × (m ≢ legs))
+
+-- where the reader is after a line
+abbrev pub place_after : Kind → Place
+place_after Start = Mark
+place_after Leg = Mark
+place_after End = Close
 
 -- a line is read
 pub record LineTaken (c : Cursor) (lines legs : ℕ) (r : Record) (d : Cursor) : Type 0 where

@@ -5,8 +5,9 @@
 // a sheet and nothing of what its numbers mean, and only lends out parts of the sheet.
 #![tactic(auto)]
 
-ghost use Rattle.std.specs.Prelude.{◌≡◌};
-ghost use Rattle.sheet.specs.Numbers.{form_number, spelled};
+ghost use Rattle.std.specs.Prelude.{◌≡◌, ◌≤◌, map, length};
+ghost use Rattle.std.specs.Int.Digits.{number_from_digits};
+ghost use Rattle.sheet.specs.Numbers.{form_number, figure, spelled};
 
 mod reading;
 mod steps;
@@ -22,32 +23,25 @@ pub const FIGURE_LIMIT: usize = 5;
 #[derive(Clone, Copy, PartialEq, Eq, Debug)]
 pub enum FormFault {
     // More bytes than a sheet may have.
-    TooLong,
+    TooLong = 30,
     // Not the mark that is due, or no mark where one is due.
-    Mark,
+    Mark = 31,
     // A field with no figure, a leading 0 or a sixth figure.
-    Field,
+    Field = 32,
     // No blank or line end where one is due.
-    Separator,
+    Separator = 33,
     // The last line's count is not the number of legs.
-    Count,
+    Count = 34,
     // Bytes after the last line.
-    Trailing,
+    Trailing = 35,
 }
 
-impl FormFault {
-    // The fault's number, 30 to 35.
-    pub fn number(self) -> u32
-        ensures value { result ≡ form_number self }
-    {
-        match self {
-            FormFault::TooLong => 30,
-            FormFault::Mark => 31,
-            FormFault::Field => 32,
-            FormFault::Separator => 33,
-            FormFault::Count => 34,
-            FormFault::Trailing => 35,
-        }
+// The fault's number, 30 to 35.
+impl From<FormFault> for u32 {
+    ghost from_gives = { λ f n. n ≡ form_number f };
+
+    fn from(fault: FormFault) -> u32 {
+        fault as u32
     }
 }
 
@@ -59,7 +53,7 @@ pub struct Fault {
 }
 
 // A field: its figures, as the part of the sheet that they are, and where they begin there.
-#[derive(Clone, Copy, Debug)]
+#[derive(Clone, Copy, PartialEq, Eq, Debug)]
 pub struct Field<'a> {
     pub figures: &'a [u8],
     pub at: usize,
@@ -70,16 +64,23 @@ impl Field<'_> {
     pub fn value(self) -> u32
         ensures value { result ≡ spelled self.entry.figures.now }
     {
-        let mut value: u32 = 0;
-        for i in 0..FIGURE_LIMIT.min(self.figures.len()) {
-            value = value * 10 + u32::from(self.figures[i].wrapping_sub(b'0'));
-        }
-        value
+        number(self.figures.get(..FIGURE_LIMIT).unwrap_or(self.figures))
     }
 }
 
+// The number that figures spell.
+#[tactic(auto, using(crate::proofs::Spelling::number_by_fold))]
+fn number(figures: &[u8]) -> u32
+    requires { length figures.now ≤ FIGURE_LIMIT }
+    ensures { result ≡ number_from_digits 10 (map figure figures.now) }
+{
+    figures.iter().fold(0, |number: u32, byte| {
+        number * 10 + u32::from(byte.wrapping_sub(b'0'))
+    })
+}
+
 // A line of the sheet, with its fields.
-#[derive(Clone, Copy, Debug)]
+#[derive(Clone, Copy, PartialEq, Eq, Debug)]
 pub enum Record<'a> {
     Start {
         points: Field<'a>,
@@ -96,7 +97,7 @@ pub enum Record<'a> {
 }
 
 // Which line a mark begins.
-#[derive(Clone, Copy)]
+#[derive(Clone, Copy, PartialEq, Eq, Debug)]
 pub enum Kind {
     Start,
     Leg,

@@ -2,43 +2,17 @@
 
 ghost use Rattle.std.specs.Prelude.{◌≡◌, true, ◌≢◌};
 ghost use Rattle.sheet.specs.Readers.{standing, Opens, told, Placed};
-ghost use Rattle.sheet.specs.Reading.{Reads, OneOutcome, legs_after, more};
-ghost use Rattle.sheet.specs.Records.{kind_of};
+ghost use Rattle.sheet.specs.Reading.{Reads, OneOutcome};
 ghost use Rattle.sheet.specs.Whole.{Once};
 
-use crate::steps::{Cursor, Place};
+use crate::steps::{Cursor, Place, Tally};
 use crate::{Fault, FormFault, Record, SHEET_LIMIT};
 
-// How many lines were read, and how many of them were legs.
-#[derive(Clone, Copy)]
-struct Tally {
-    lines: u32,
-    legs: u32,
-}
-
-impl Tally {
-    // The tally with one more record.
-    fn after(self, line: Record<'_>) -> Tally
-        ensures { result ≡ record { lines = more self.lines; legs = legs_after (kind_of line.entry) self.legs } }
-    {
-        let legs = match line {
-            Record::Start { .. } => self.legs,
-            Record::Leg { .. } => self.legs.wrapping_add(1),
-            Record::End { .. } => self.legs,
-        };
-        Tally {
-            lines: self.lines.wrapping_add(1),
-            legs,
-        }
-    }
-}
-
 // Reads a sheet record after record.
-#[derive(Drop)]
+// No `Iterator`: a fault is told again at each later call, so a `for` over the reader need not end.
+#[derive(Debug, Drop)]
 pub struct Reader<'a> {
-    sheet: &'a [u8],
-    at: usize,
-    place: Place,
+    cursor: Cursor<'a>,
     tally: Tally,
 }
 
@@ -54,9 +28,11 @@ impl<'a> Reader<'a> {
             });
         }
         Ok(Reader {
-            sheet,
-            at: 0,
-            place: Place::Mark,
+            cursor: Cursor {
+                sheet,
+                at: 0,
+                place: Place::Mark,
+            },
             tally: Tally { lines: 0, legs: 0 },
         })
     }
@@ -78,11 +54,11 @@ impl<'a> Reader<'a> {
     pub fn record(&mut self) -> Result<Option<Record<'a>>, Fault>
         ensures cases { Reads (standing self.old) (told result) (standing self.new) }
         ensures items { Placed self.old result self.new }
-        ensures same { self.new.sheet.now ≡ self.old.sheet.now }
+        ensures same { self.new.cursor.sheet.now ≡ self.old.cursor.sheet.now }
         ensures law { OneOutcome (standing self.old) }
     {
         self.one_outcome();
-        match self.place {
+        match self.cursor.place {
             Place::Close => self.close(),
             _ => self.next_line(),
         }
@@ -90,53 +66,31 @@ impl<'a> Reader<'a> {
 
     // The end of the sheet, where the last line was read.
     fn close(&self) -> Result<Option<Record<'a>>, Fault>
-        requires { self.now.place ≡ Place.Close }
+        requires { self.now.cursor.place ≡ Place.Close }
         ensures cases { Reads (standing self.now) (told result) (standing self.now) }
-        ensures items { Placed self.now result self.now }
     {
-        let mut cursor = Cursor {
-            sheet: self.sheet,
-            at: self.at,
-            place: Place::Close,
-        };
-        match cursor.pass(Place::Close) {
-            Ok(()) => Ok(None),
-            Err(form) => Err(self.fault(form)),
-        }
+        let mut cursor = self.cursor;
+        let tally = self.tally;
+        cursor.pass(Place::Close).map_err(|form| tally.fault(form))?;
+        Ok(None)
     }
 
     // The line that is due.
     fn next_line(&mut self) -> Result<Option<Record<'a>>, Fault>
-        requires { self.old.place ≢ Place.Close }
+        requires { self.old.cursor.place ≢ Place.Close }
         ensures cases { Reads (standing self.old) (told result) (standing self.new) }
         ensures items { Placed self.old result self.new }
-        ensures same { self.new.sheet.now ≡ self.old.sheet.now }
+        ensures same { self.new.cursor.sheet.now ≡ self.old.cursor.sheet.now }
     {
         let mut cursor = Cursor {
-            sheet: self.sheet,
-            at: self.at,
             place: Place::Mark,
+            ..self.cursor
         };
         let tally = self.tally;
-        match cursor.line(tally.lines, tally.legs) {
-            Ok(record) => {
-                self.at = cursor.at;
-                self.place = cursor.place;
-                self.tally = tally.after(record);
-                Ok(Some(record))
-            }
-            Err(form) => Err(self.fault(form)),
-        }
-    }
-
-    // A fault on the line being read.
-    fn fault(&self, form: FormFault) -> Fault
-        ensures { result ≡ record { form = form; line = more self.now.tally.lines } }
-    {
-        Fault {
-            form,
-            line: self.line().wrapping_add(1),
-        }
+        let record = cursor.line(tally).map_err(|form| tally.fault(form))?;
+        self.cursor = cursor;
+        self.tally = tally.after(record);
+        Ok(Some(record))
     }
 }
 
@@ -145,7 +99,7 @@ fn law()
     ensures { Once }
 {}
 
-// States the law of whole sheets: the call itself does nothing.
+// States the law of whole sheets: the call itself does nothing. That it answers `true` was promised, and so stays.
 pub fn sheets_read_once() -> bool
     ensures value { result ≡ true }
     ensures bound { Once }

@@ -1,20 +1,10 @@
-use Rattle.std.proofs.Common.{refl}
-use Rattle.chains.proofs.Rows.{row_put, row_past}
+use Rattle.chains.proofs.Rows.{row_put}
 use lib.Seq.{map-set_same}
 use Rattle.chains.proofs.link_prev.Goals as goal
 
 pub returns-then-i-elements : goal.returns-then-i-elements
 returns-then-i-elements g c = record {
-  after = row_put g.T.Linked.back c.args.elements.now c.in-Some.i c.set_prev.new.self c.args.at c.args.prev
-      c.in-Some.is c.set_prev.ensures.after;
-  keeps = map-set_same g.T.Linked.link c.args.elements.now c.in-Some.i c.set_prev.new.self c.index-elements-i.result c.set_prev.ensures.keeps;
-  same = map-set_same g.T.Linked.bare c.args.elements.now c.in-Some.i c.set_prev.new.self c.index-elements-i.result c.set_prev.ensures.same;
-}
-
-pub returns-else-i-elements : goal.returns-else-i-elements
-returns-else-i-elements g c = record {
-  after = row_past g.T.Linked.back c.args.elements.now c.in-Some.i c.args.at c.args.prev
-      c.in-Some.is c.if-i-elements.false;
-  keeps = refl;
-  same = refl;
+  after = row_put _ _ _ _ _ _ c.in-Some.is c.set_prev.ensures.after;
+  keeps = map-set_same _ _ _ _ _ c.set_prev.ensures.keeps;
+  same = map-set_same _ _ _ _ _ c.set_prev.ensures.same;
 }

@@ -1,10 +1,13 @@
-use Rattle.std.proofs.Common.{refl}
-use Rattle.sheet.proofs.Figures.{run_one, bad_figures}
+use Rattle.std.proofs.Common.{◌≡◌, rules, refl, subst}
+use Rattle.sheet.specs.Steps.{next_place}
+use Rattle.sheet.proofs.Figures.{bad_figures, figures_taken}
 use Rattle.sheet.proofs.steps.Cursor.figures.Goals as goal
 
-pub loop-first-init : goal.loop-first-init
-loop-first-init c = (refl, run_one _ _ c.requires c.in_ok-pass.ensures.0)
+pub returns-then-is_written : goal.returns-then-is_written
+returns-then-is_written c = (
+  figures_taken _ c.pass.new.self _ _ _ c.rest-rest.ensures c.requires c.in_ok-pass.ensures.0 c.leading_figures.ensures c.if-is_written.ensures refl refl,
+  subst (λ p. c.pass.new.self.place ≡ next_place p c.args.then) c.requires c.in_ok-pass.ensures.1,
+)
 
-pub returns-then-full : goal.returns-then-full
-returns-then-full c =
-    (refl, bad_figures _ _ c.loop-first.self c.requires c.in_ok-pass.ensures.0 c.loop-first.invariant.0 c.loop-first.invariant.1 c.loop-first-test.ensures c.if-full.ensures)
+pub returns-else-is_written : goal.returns-else-is_written
+returns-else-is_written c = search (rules, bad_figures)
