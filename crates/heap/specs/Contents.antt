@@ -1,84 +1,52 @@
--- What a heap means as a waiting queue, and when it is sound.
+-- What a tree of waiting items and a floor mean as a waiting queue, and when they agree.
+--   waits       the keys of all items of a tree
+--   root        the entry at the root of a tree, if any item waits
+--   SoundTree   the cells and the count of a tree agree
 --   contents    the waiting items with their keys, the floor and the band
---   Agrees      the cells, the count and the floor agree
---   content     what a heap means
---   Sound       its parts agree
---   first       the entry at the root of its tree, if any item waits
---   Enterable   a sound heap that an item may enter
---   Lowerable   a sound heap in which an item may be lowered
---   Removable   a sound heap from which an item may be taken
---   Undercuts   whether an item waits at a lower key
---   Admits      whether an item may be offered at a key
+--   Agrees      a tree and the floor agree, as they do in every heap
 --   room        how many of some cells serve
 --   bare        a queue over some number of cells in which nothing waits
 --   fresh       a heap as it is made over some number of cells
 --   Tried       which numbers of cells serve
-use Rattle.std.specs.Prelude.{◌≡◌, ℕ, ◌<◌, ◌≤◌, Bool, true, false, cond, ◌⊎◌, List, length, replicate, Some, None, Ok, Err, Option, Result, ◌==◌, nat_le}
+use Rattle.std.specs.Prelude.{◌≡◌, ℕ, ◌<◌, ◌≤◌, if◌then◌else◌, ◌⊎◌, List, length, replicate, Some, None, Ok, Err, Option, Result, ◌==◌, nat_le}
 use Rattle.figures.specs.Limits.{value_limit, cell_limit}
 use Rattle.figures.specs.declared.OutOfRange.{OutOfRange}
 use Rattle.queue.specs.declared.Entry.{Entry}
-use Rattle.queue.specs.declared.OfferRefusal.{OfferRefusal}
-use Rattle.queue.specs.Meaning.{Meaning, Banded, Allowed, Lowest, Offers, key_of, held}
-use Rattle.heap.specs.declared.Cell.{Cell}
-use Rattle.heap.specs.declared.Heap.{Heap}
+use Rattle.queue.specs.Meaning.{Meaning, Banded, held}
+use Rattle.heap.specs.declared.tree.Tree.{Tree}
 use Rattle.heap.specs.Cells.{keys, item_at, rank}
 use Rattle.heap.specs.Order.{Heaped}
 
+abbrev pub waits : Tree → List (Option ℕ)
+waits t = keys t.cells.now
+
+abbrev pub root : Tree → Option Entry
+root t =
+    if t.count == 0 then None else Some (record { item = item_at t.cells.now 0; key = rank t.cells.now 0 })
+
+pub record SoundTree (t : Tree) : Type 0 where
+  -- the items that wait stand in a heap
+  pub heaped : Heaped t.cells.now t.count
+  -- the count is right
+  pub counted : t.count ≡ held (waits t)
+
 -- the band over n cells: all keys, or none where there is no cell
 abbrev pub band_over : ℕ → ℕ
-band_over n = cond (n == 0) 0 value_limit
+band_over n = if n == 0 then 0 else value_limit
 
-abbrev pub contents : List Cell → ℕ → Meaning
-contents cells f = record { waits = keys cells; floor = f; band = band_over (length cells) }
+-- with these keys of all items, above floor f
+abbrev pub contents : List (Option ℕ) → ℕ → Meaning
+contents ks f = record { waits = ks; floor = f; band = band_over (length ks) }
 
--- with n items waiting, above floor f
-pub record Agrees (cells : List Cell) (n f : ℕ) : Type 0 where
-  -- the items that wait stand in a heap
-  pub heaped : Heaped cells n
-  -- the count is right
-  pub counted : n ≡ held (keys cells)
+-- above floor f
+pub record Agrees (t : Tree) (f : ℕ) : Type 0 where
+  pub tree : SoundTree t
   -- each key lies in the band above the floor
-  pub banded : Banded (contents cells f)
-
-abbrev pub content : Heap → Meaning
-content h = contents h.cells.now h.floor
-
-abbrev pub Sound : Heap → Type 0
-Sound h = Agrees h.cells.now h.count h.floor
-
-abbrev pub first : Heap → Option Entry
-first h =
-    cond (h.count == 0) None (Some (record { item = item_at h.cells.now 0; key = rank h.cells.now 0 }))
-
--- item i does not wait, and may enter at key k
-pub record Enterable (h : Heap) (i k : ℕ) : Type 0 where
-  pub sound : Sound h
-  pub allowed : Allowed (content h) i k
-  pub free : key_of (content h) i ≡ None
-
--- item i waits, and may be lowered to key k
-pub record Lowerable (h : Heap) (i k : ℕ) : Type 0 where
-  pub sound : Sound h
-  pub allowed : Allowed (content h) i k
-  pub waits : (old : ℕ) × (key_of (content h) i ≡ Some old) × (k < old)
-
--- item i waits at key k, a lowest one
-pub record Removable (h : Heap) (i k : ℕ) : Type 0 where
-  pub sound : Sound h
-  pub waits : key_of (content h) i ≡ Some k
-  pub lowest : Lowest (content h) k
-
-abbrev pub Undercuts : Meaning → ℕ → Bool → Type 0
-Undercuts m k true = (j : ℕ) × (l : ℕ) × (key_of m j ≡ Some l) × (l < k)
-Undercuts m k false = Lowest m k
-
-abbrev pub Admits : Meaning → ℕ → ℕ → Result (Unit {0}) OfferRefusal → Type 0
-Admits m i k (Ok x) = Allowed m i k
-Admits m i k (Err e) = Offers m i k (Err e) m
+  pub banded : Banded (contents (waits t) f)
 
 -- all of n cells, or none where they are too many
 abbrev pub room : ℕ → ℕ
-room n = cond (nat_le n cell_limit) n 0
+room n = if nat_le n cell_limit then n else 0
 
 abbrev pub bare : ℕ → Meaning
 bare n = record { waits = replicate n None; floor = 0; band = band_over n }

@@ -1,3 +1,4 @@
 pub mod Cells
 pub mod Order
 pub mod Contents
+pub mod Heaps

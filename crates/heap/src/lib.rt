@@ -5,19 +5,19 @@
 // queue, with the widest band; it touches the lent cells alone, and knows nothing of halls or jobs.
 #![tactic(auto)]
 
-mod moves;
 mod row;
 mod tree;
 
-ghost use Rattle.std.specs.Prelude.{◌≡◌, ◌≤◌, length};
+ghost use Rattle.std.specs.Prelude.{◌≡◌, ⊤, length};
 ghost use Rattle.heap.specs.Cells.{blank};
-ghost use Rattle.heap.specs.Contents.{content, Sound, first, room, fresh, Tried};
+ghost use Rattle.heap.specs.Contents.{Agrees, fresh, Tried};
 
 use figures::{CELL_LIMIT, OutOfRange, VALUE_LIMIT};
 use queue::{Entry, OfferRefusal, Offered, Queue, TakeRefusal};
-use row::{items, key_of, wipe};
+use tree::Tree;
 
 // What a heap keeps of one item, and of one place of its tree.
+// One cell serves both: in two rows, of items and of places, a caller would lend two and keep them of one length.
 #[derive(Clone, Copy, Debug)]
 pub struct Cell {
     // The item's key, if it waits.
@@ -45,41 +45,31 @@ impl Cell {
 pub fn trial(cells: usize) -> Result<(), OutOfRange>
     ensures { Tried cells result }
 {
-    if cells < 1 || cells > CELL_LIMIT {
+    if !(1..=CELL_LIMIT).contains(&cells) {
         return Err(OutOfRange);
     }
     Ok(())
 }
 
-// How many of the cells serve: none where they are too many.
-fn usable(cells: usize) -> usize
-    ensures value { result ≡ room cells }
-    ensures bound { result ≤ cells }
-{
-    if cells > CELL_LIMIT { 0 } else { cells }
-}
-
-// A waiting queue in lent cells.
+// A waiting queue in lent cells. Its parts agree at all times.
 #[derive(Drop)]
 pub struct Heap<'a> {
-    cells: &'a mut [Cell],
-    count: usize,
+    tree: Tree<'a>,
     floor: u32,
+    ghost agrees: { Agrees tree floor },
 }
 
 impl<'a> Heap<'a> {
+    ghost use Rattle.heap.specs.Heaps.{content};
+
     // An empty queue whose capacity is the number of cells, whatever stood in them, or 0 where they are too many. Takes
     // time by the number of cells.
     pub fn new(cells: &'a mut [Cell]) -> Heap<'a>
-        ensures value { content result ≡ fresh (length cells.old) }
-        ensures keeps { Sound result }
+        ensures { content result ≡ fresh (length cells.old) }
     {
-        let room = usable(cells.len());
-        let cells = &mut cells[0..room];
-        wipe(cells);
+        let room = trial(cells.len()).map_or(0, |()| cells.len());
         Heap {
-            cells,
-            count: 0,
+            tree: Tree::new(&mut cells[..room]),
             floor: 0,
         }
     }
@@ -88,20 +78,23 @@ impl<'a> Heap<'a> {
 // A question is answered at once; an offer and a taking take time by the tree's height; to clear takes time by the
 // number of cells, and none where nothing waits.
 impl Queue for Heap<'_> {
+    ghost use Rattle.heap.specs.Heaps.{content, first};
+
     ghost meaning = { content };
 
-    ghost sound = { Sound };
+    ghost sound = { λ _. ⊤ };
 
     ghost named = { first };
 
-    ghost banded = { λ h s. s.banded };
+    ghost banded = { λ h _. h.agrees.banded };
 
     fn clear(&mut self) {
-        self.reset();
+        self.tree.clear();
+        self.floor = 0;
     }
 
     fn waiting(&self) -> usize {
-        self.count
+        self.tree.len()
     }
 
     fn floor(&self) -> u32 {
@@ -109,53 +102,41 @@ impl Queue for Heap<'_> {
     }
 
     fn capacity(&self) -> usize {
-        items(self.cells)
+        self.tree.capacity()
     }
 
     fn band(&self) -> u32 {
-        if self.cells.len() == 0 {
-            0
-        } else {
-            VALUE_LIMIT
-        }
+        if self.capacity() == 0 { 0 } else { VALUE_LIMIT }
     }
 
     fn key(&self, item: usize) -> Option<u32> {
-        key_of(self.cells, item)
+        self.tree.key(item)
     }
 
     fn least(&self) -> Option<Entry> {
-        self.root()
+        self.tree.root()
     }
 
     fn offer(&mut self, item: usize, key: u32) -> Result<Offered, OfferRefusal> {
-        if let Err(refusal) = self.admits(item, key) {
-            return Err(refusal);
-        }
+        self.admits(item, key)?;
         match self.key(item) {
             None => {
-                self.enter(item, key);
+                self.tree.enter(item, key);
                 Ok(Offered::Entered)
             }
-            Some(old) => {
-                if key < old {
-                    self.lower(item, key);
-                    Ok(Offered::Lowered)
-                } else {
-                    Ok(Offered::Kept)
-                }
+            Some(old) if key < old => {
+                self.tree.lower(item, key);
+                Ok(Offered::Lowered)
             }
+            Some(_) => Ok(Offered::Kept),
         }
     }
 
+    #[tactic(auto, using(crate::proofs::Sounds::taken_agrees))]
     fn take(&mut self, item: usize) -> Result<(), TakeRefusal> {
-        let Some(key) = self.key(item) else {
-            return Err(TakeRefusal::NotWaiting);
-        };
-        if self.undercuts(key) {
-            return Err(TakeRefusal::NotLeast);
-        }
-        self.remove(item, key);
+        let key = self.yields(item)?;
+        self.tree.remove(item);
+        self.floor = key;
         Ok(())
     }
 }

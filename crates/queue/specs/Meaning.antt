@@ -5,8 +5,10 @@
 --   Lowest    no item waits at a lower key
 --   Least     what the question for a least item may answer
 --   Offers    what an offer answers, and what the queue means after it
+--   Admits    why an item may not be offered at a key, if it may not
 --   Idle      what holds of an offer that changes nothing: it is refused, or keeps the item
 --   Takes     the same of a taking
+--   Yields    the key of an item that may be taken, or why it may not
 --   Banded    what holds of every sound queue: each key lies in the band above the floor
 use Rattle.std.specs.Prelude.{◌≡◌, ℕ, suc, ◌+◌, ◌<◌, ◌≤◌, ◌⊎◌, List, [], ◌∷◌, length, replicate, Some, None, Ok, Err, Option, Result, slice_index_or, slice_set}
 use Rattle.figures.specs.Limits.{value_limit}
@@ -78,6 +80,10 @@ Offers m i k (Err BelowFloor) n = (i < capacity m) × (k < m.floor) × (n ≡ m)
 Offers m i k (Err BeyondBand) n =
     (i < capacity m) × (m.floor ≤ k) × ((m.floor + m.band < k) ⊎ (value_limit < k)) × (n ≡ m)
 
+abbrev pub Admits : Meaning → ℕ → ℕ → Result (Unit {0}) OfferRefusal → Type 0
+Admits m i k (Ok x) = Allowed m i k
+Admits m i k (Err e) = Offers m i k (Err e) m
+
 abbrev pub Idle : Result Offered OfferRefusal → Type 0 → Type 0
 Idle (Ok Entered) P = Unit {0}
 Idle (Ok Lowered) P = Unit {0}
@@ -89,6 +95,10 @@ Takes m i (Ok x) n = (k : ℕ) × (key_of m i ≡ Some k) × Lowest m k × (n �
 Takes m i (Err NotWaiting) n = (key_of m i ≡ None) × (n ≡ m)
 Takes m i (Err NotLeast) n =
     ((k : ℕ) × (key_of m i ≡ Some k) × ((j : ℕ) × (l : ℕ) × (key_of m j ≡ Some l) × (l < k))) × (n ≡ m)
+
+abbrev pub Yields : Meaning → ℕ → Result ℕ TakeRefusal → Type 0
+Yields m i (Ok k) = (key_of m i ≡ Some k) × Lowest m k
+Yields m i (Err e) = Takes m i (Err e) m
 
 pub record Banded (m : Meaning) : Type 0 where
   pub low : m.floor ≤ value_limit

@@ -4,12 +4,15 @@
 // Its capacity is how many items there are, numbered from 0. This crate knows nothing of halls or jobs.
 //
 // Every queue is proved to keep the meaning below, and code above it is proved once for all that do. A promise is made
-// of sound queues; each call keeps a queue sound, and on any other it is still safe and ends.
+// of sound queues; each call keeps a queue sound, and on any other it is still safe and ends. So soundness is a premise
+// here and in the code above, and no invariant: a call may be lent any queue, and a wheel may stand on any.
 #![tactic(auto)]
 
 ghost use Rattle.std.specs.Prelude.{◌≡◌, ℕ, Option, OnErr};
 ghost use Rattle.queue.specs.declared.Entry.{Entry};
-ghost use Rattle.queue.specs.Meaning.{Meaning, capacity, key_of, waiting, cleared, Least, Offers, Idle, Takes, Banded, offer_number, take_number};
+ghost use Rattle.queue.specs.Meaning.{Meaning, capacity, key_of, waiting, cleared, Least, Offers, Admits, Idle, Takes, Yields, Banded, offer_number, take_number};
+
+use figures::VALUE_LIMIT;
 
 // What an accepted offer did.
 #[derive(Clone, Copy, PartialEq, Eq, Debug)]
@@ -26,44 +29,37 @@ pub enum Offered {
 #[derive(Clone, Copy, PartialEq, Eq, Debug)]
 pub enum OfferRefusal {
     // The item is not below the capacity.
-    NoSuchItem,
+    NoSuchItem = 20,
     // The key is below the floor.
-    BelowFloor,
+    BelowFloor = 21,
     // The key is beyond floor + band, or above the largest key.
-    BeyondBand,
+    BeyondBand = 22,
 }
 
 // Why a taking is refused, in the order in which the cases are tried.
 #[derive(Clone, Copy, PartialEq, Eq, Debug)]
 pub enum TakeRefusal {
     // The item does not wait.
-    NotWaiting,
+    NotWaiting = 23,
     // Another item has a lower key.
-    NotLeast,
+    NotLeast = 24,
 }
 
-impl OfferRefusal {
-    // The refusal's number.
-    pub fn number(self) -> u32
-        ensures { result ≡ offer_number self }
-    {
-        match self {
-            OfferRefusal::NoSuchItem => 20,
-            OfferRefusal::BelowFloor => 21,
-            OfferRefusal::BeyondBand => 22,
-        }
+// The refusal's number.
+impl From<OfferRefusal> for u32 {
+    ghost from_gives = { λ r n. n ≡ offer_number r };
+
+    fn from(refusal: OfferRefusal) -> u32 {
+        refusal as u32
     }
 }
 
-impl TakeRefusal {
-    // The refusal's number.
-    pub fn number(self) -> u32
-        ensures { result ≡ take_number self }
-    {
-        match self {
-            TakeRefusal::NotWaiting => 23,
-            TakeRefusal::NotLeast => 24,
-        }
+// The refusal's number.
+impl From<TakeRefusal> for u32 {
+    ghost from_gives = { λ r n. n ≡ take_number r };
+
+    fn from(refusal: TakeRefusal) -> u32 {
+        refusal as u32
     }
 }
 
@@ -114,7 +110,36 @@ pub trait Queue {
         ensures value { sound self.now → result ≡ named self.now }
         ensures cases { sound self.now → Least (meaning self.now) result };
 
-    // Enters the item, lowers it if it waits higher, or keeps it. Writes nothing where it is refused or keeps the item.
+    // Why the item may not be offered at the key, if it may not: the first case that holds.
+    fn admits(&self, item: usize, key: u32) -> Result<(), OfferRefusal>
+        ensures { sound self.now → Admits (meaning self.now) item key result }
+    {
+        if item >= self.capacity() {
+            return Err(OfferRefusal::NoSuchItem);
+        }
+        let floor = self.floor();
+        if key < floor {
+            return Err(OfferRefusal::BelowFloor);
+        }
+        if key - floor > self.band() || key > VALUE_LIMIT {
+            return Err(OfferRefusal::BeyondBand);
+        }
+        Ok(())
+    }
+
+    // The key of an item that may be taken, or why it may not. No other item is looked for where its key is the floor.
+    fn yields(&self, item: usize) -> Result<u32, TakeRefusal>
+        ensures { sound self.now → Yields (meaning self.now) item result }
+    {
+        let key = self.key(item).ok_or(TakeRefusal::NotWaiting)?;
+        if key > self.floor() && self.least().is_some_and(|least| least.key < key) {
+            return Err(TakeRefusal::NotLeast);
+        }
+        Ok(key)
+    }
+
+    // Enters the item, lowers it if it waits higher, or keeps it. Writes nothing where it is refused or keeps the item. What is
+    // done is each queue's own: a heap lifts the item, a ring links it anew.
     fn offer(&mut self, item: usize, key: u32) -> Result<Offered, OfferRefusal>
         ensures cases { sound self.old → Offers (meaning self.old) item key result (meaning self.new) }
         ensures keeps { sound self.old → sound self.new }

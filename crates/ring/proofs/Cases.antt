@@ -1,13 +1,14 @@
 -- A ring of 10 slots with floor 2: an item may wait at keys 2 to 11.
 use Rattle.std.proofs.Common.{◌≡◌, ℕ, ◌<◌, true, List, length, is_ok, Ok, Err, Result, refl, inl, inr, arith}
+use Rattle.chains.specs.Cells.{keys}
 use Rattle.chains.specs.declared.Chain.{Chain}
 use Rattle.queue.specs.declared.Offered.{Offered}
 use Rattle.queue.specs.declared.Offered.TheVariants.{Entered, Lowered, Kept}
 use Rattle.queue.specs.declared.OfferRefusal.{OfferRefusal}
 use Rattle.queue.specs.declared.OfferRefusal.TheVariants.{NoSuchItem, BelowFloor, BeyondBand}
 use Rattle.queue.specs.Meaning.{Meaning, Offers, offer_number}
-use Rattle.ring.specs.declared.Cell.{Cell}
-use Rattle.ring.specs.Standing.{keys, meant}
+use Rattle.chains.specs.declared.cells.Cell.{Cell}
+use Rattle.ring.specs.Standing.{meant}
 
 module _ (slots : List Chain) (cells : List Cell) (ten : length slots ≡ 10) (i : ℕ) (there : i < length (keys cells)) (n : Meaning) where
   -- key 11 is accepted

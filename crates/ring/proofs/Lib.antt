@@ -3,3 +3,4 @@ pub mod Scans
 pub mod Stands
 pub mod Writes
 pub mod Cases
+pub mod Finds

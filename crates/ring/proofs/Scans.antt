@@ -2,47 +2,34 @@
 use Rattle.std.proofs.Common.{◌≡◌, ℕ, zero, suc, ◌+◌, ◌%◌, ◌<◌, ◌≤◌, ◌⊎◌, List, length, get_or, Some, None, Option, sym, refl, ap, ◌∙◌, subst, inl, inr, arith}
 use lib.ListN.{length-map}
 use Rattle.std.proofs.lemmas.Bool.{cases_lt}
+use Rattle.chains.specs.Cells.{keys}
 use Rattle.chains.specs.declared.Chain.{Chain}
 use Rattle.chains.proofs.Slots.{slot_empty, slot_first, slots_idle, some_lt}
 use Rattle.queue.specs.Meaning.{Least}
 use Rattle.queue.proofs.Meanings.{none_held, none_in_replicate}
-use Rattle.ring.specs.declared.Cell.{Cell}
-use Rattle.ring.specs.Standing.{heads, keys, rows, slot_of, meant, Standing, scanned, or_else, entry_at, entry_of, chosen}
+use Rattle.chains.specs.declared.cells.Cell.{Cell}
+use Rattle.ring.specs.Standing.{heads, rows, slot_of, meant, Blank, Standing, scanned, or_else, entry_at, entry_of, chosen}
 use Rattle.ring.proofs.Turns.{one_key}
 
 -- all heads None: nothing is found
-pub scanned_none : (row : List (Option ℕ)) (n k : ℕ) → ((s : ℕ) → get_or row s None ≡ None) → scanned n row k ≡ None
+scanned_none : (row : List (Option ℕ)) (n k : ℕ) → ((s : ℕ) → get_or row s None ≡ None) → scanned n row k ≡ None
 scanned_none row zero k h = refl
 scanned_none row (suc n) k h = ap (λ o. or_else o (scanned n row (suc k))) (h (k % length row)) ∙ scanned_none row n (suc k) h
 
--- the slot of key k holds something
-pub scan_found : (row : List (Option ℕ)) (n k i : ℕ) → 0 < n → get_or row (k % length row) None ≡ Some i → Some i ≡ scanned n row k
-scan_found row zero k i p e = absurd (omega arith)
-scan_found row (suc n) k i p e = sym (ap (λ o. or_else o (scanned n row (suc k))) e)
-
--- the slot of key k is empty
-pub scan_passed : (row : List (Option ℕ)) (n m k j : ℕ) → n ≡ m + 1 → j ≡ k + 1 → get_or row (k % length row) None ≡ None
-    → scanned m row j ≡ scanned n row k
-scan_passed row zero m k j a b e = absurd (omega arith)
-scan_passed row (suc n) m k j a b e =
-    let p : m ≡ n = omega arith in
-    let q : j ≡ suc k = omega arith in
-    ap (λ x. scanned x row j) p ∙ (ap (λ y. scanned n row y) q ∙ sym (ap (λ o. or_else o (scanned n row (suc k))) e))
-
-module _ (slots : List Chain) (cells : List Cell) (low count : ℕ) (st : Standing slots cells low count) where
+module _ {slots : List Chain} {cells : List Cell} {low count : ℕ} (st : Standing slots cells low count) where
   -- an item that waits needs a slot
-  pub has_slot : (i k : ℕ) → get_or (keys cells) i None ≡ Some k → 0 < length slots
+  has_slot : (i k : ℕ) → get_or (keys cells) i None ≡ Some k → 0 < length slots
   has_slot i k e =
       let l = some_lt (keys cells) i k e in
       let m = length-map cells (λ c. c.key) in
       st.some_slot (omega arith)
 
   -- keys lie in a row of as many as there are slots
-  pub key_high : (i k : ℕ) → get_or (keys cells) i None ≡ Some k → k < low + length slots
+  key_high : (i k : ℕ) → get_or (keys cells) i None ≡ Some k → k < low + length slots
   key_high i k e = let w = st.banded.within i k e in let p = has_slot i k e in omega arith
 
   -- nothing waits
-  pub idle_least : ((j k : ℕ) → get_or (keys cells) j None ≡ Some k → ⊥) → Least (meant slots cells low) None
+  idle_least : ((j k : ℕ) → get_or (keys cells) j None ≡ Some k → ⊥) → Least (meant slots cells low) None
   idle_least n j = none_of (get_or (keys cells) j None) (λ k e. n j k e)
     where
       none_of : (o : Option ℕ) → ((k : ℕ) → o ≡ Some k → ⊥) → o ≡ None
@@ -50,7 +37,7 @@ module _ (slots : List Chain) (cells : List Cell) (low count : ℕ) (st : Standi
       none_of (Some k) h = absurd (h k refl)
 
   -- n slots are left to look at, from key k on
-  pub scan_least : (n k : ℕ) → low ≤ k → k + n ≡ low + length slots → ((i l : ℕ) → get_or (keys cells) i None ≡ Some l → k ≤ l)
+  scan_least : (n k : ℕ) → low ≤ k → k + n ≡ low + length slots → ((i l : ℕ) → get_or (keys cells) i None ≡ Some l → k ≤ l)
       → Least (meant slots cells low) (entry_of (keys cells) (scanned n (heads slots) k))
   scan_least zero k lk e h = idle_least (λ i l q. let a = h i l q in let b = key_high i l q in omega arith)
   scan_least (suc n) k lk e h =
@@ -88,12 +75,12 @@ module _ (slots : List Chain) (cells : List Cell) (low count : ℕ) (st : Standi
   pub chosen_least : Least (meant slots cells low) (chosen slots cells low)
   chosen_least = scan_least (length slots) low (omega arith) refl (λ i l e. st.banded.above i l e)
 
-  pub keys_idle : count ≡ 0 → (i : ℕ) → get_or (keys cells) i None ≡ None
-  keys_idle e i =
-      ap (λ row. get_or row i None) (none_held (keys cells) (sym st.counted ∙ e)) ∙ none_in_replicate (length (keys cells)) i
-
-  pub heads_idle : count ≡ 0 → (s : ℕ) → get_or (heads slots) s None ≡ None
-  heads_idle e = slots_idle (slot_of (length slots)) (rows slots cells) st.lists st.slotted (keys_idle e)
+  -- nothing is counted
+  pub idle : count ≡ 0 → Blank slots cells
+  idle e =
+      let ks : (i : ℕ) → get_or (keys cells) i None ≡ None = λ i.
+      ap (λ row. get_or row i None) (none_held (keys cells) (sym st.counted ∙ e)) ∙ none_in_replicate (length (keys cells)) i in
+      record { no_head = slots_idle (slot_of (length slots)) (rows slots cells) st.lists st.slotted ks; no_key = ks }
 
   pub chosen_idle : count ≡ 0 → chosen slots cells low ≡ None
-  chosen_idle e = ap (entry_of (keys cells)) (scanned_none (heads slots) (length slots) low (heads_idle e))
+  chosen_idle e = ap (entry_of (keys cells)) (scanned_none (heads slots) (length slots) low (idle e).no_head)

@@ -1,15 +1,11 @@
 -- Counting round a ring of n places.
-use Rattle.std.proofs.Common.{◌≡◌, ℕ, ◌+◌, ◌*◌, ◌/◌, ◌%◌, ◌<◌, ◌≤◌, sym, ap, ◌∙◌, inl, inr, mod-eq_of_lt, mul-le-mul_left, mul-add, arith}
-use native.Mathlib.Nat.{mod_self, mod-add-mod, div-add-mod}
+use Rattle.std.proofs.Common.{◌≡◌, ℕ, ◌+◌, ◌*◌, ◌/◌, ◌%◌, ◌<◌, ◌≤◌, sym, ◌∙◌, inl, inr, mod-eq_of_lt, mul-le-mul_left, mul-add, arith}
+use native.Mathlib.Nat.{mod-add-mod, div-add-mod}
 use Rattle.std.proofs.lemmas.Bool.{cases_lt}
 
 -- the place after one that is not the last
 pub next_place : (n k : ℕ) → k % n + 1 < n → (k + 1) % n ≡ k % n + 1
 next_place n k h = sym (mod-add-mod k n 1) ∙ mod-eq_of_lt h
-
--- the place after the last
-pub first_place : (n k : ℕ) → k % n + 1 ≡ n → (k + 1) % n ≡ 0
-first_place n k h = sym (mod-add-mod k n 1) ∙ (ap (λ m. m % n) h ∙ mod_self n)
 
 -- of n keys in a row no two have one place
 pub one_key : (n k l : ℕ) → k ≤ l → l < k + n → l % n ≡ k % n → l ≡ k

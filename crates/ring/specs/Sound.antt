@@ -10,7 +10,7 @@ use Rattle.chains.specs.declared.Chain.{Chain}
 use Rattle.chains.specs.Slots.{Rows}
 use Rattle.queue.specs.declared.Entry.{Entry}
 use Rattle.queue.specs.Meaning.{Meaning}
-use Rattle.ring.specs.declared.Cell.{Cell}
+use Rattle.chains.specs.declared.cells.Cell.{Cell}
 use Rattle.ring.specs.declared.Ring.{Ring}
 use Rattle.ring.specs.Standing.{rows, meant, chosen, Standing}
 

@@ -5,15 +5,17 @@
 --   fresh     what a ring means when it is made
 --   Blank     nothing waits in slots and cells
 --   Standing  its parts agree: key k lies in slot k mod S, where S is the number of slots
+--   first_some  the first of a row that is something
 --   scanned   the head of the first slot that holds something, of so many from key k's on
 --   chosen    the entry that the ring names: an item of least key
-use Rattle.std.specs.Prelude.{◌≡◌, ℕ, zero, suc, ◌-◌, ◌%◌, ◌<◌, ◌≤◌, Bool, cond, ◌&&◌, List, [], map, length, replicate, Some, None, Option, nat_le, slice_index_or}
+use Rattle.std.specs.Prelude.{◌≡◌, ℕ, zero, suc, ◌-◌, ◌%◌, ◌<◌, ◌≤◌, Bool, cond, ◌&&◌, List, [], ◌∷◌, map, length, replicate, Some, None, Option, nat_le, slice_index_or}
 use Rattle.figures.specs.Limits.{cell_limit, slot_limit}
 use Rattle.chains.specs.declared.Chain.{Chain}
 use Rattle.chains.specs.Slots.{Rows, Slotted}
 use Rattle.queue.specs.declared.Entry.{Entry}
 use Rattle.queue.specs.Meaning.{Meaning, Banded, held}
-use Rattle.ring.specs.declared.Cell.{Cell}
+use Rattle.chains.specs.Cells.{keys, nexts, prevs}
+use Rattle.chains.specs.declared.cells.Cell.{Cell}
 
 abbrev pub fits : ℕ → ℕ → Bool
 fits slots cells = (nat_le 1 slots && nat_le slots slot_limit) && (nat_le 1 cells && nat_le cells cell_limit)
@@ -21,14 +23,11 @@ fits slots cells = (nat_le 1 slots && nat_le slots slot_limit) && (nat_le 1 cell
 abbrev pub heads : List Chain → List (Option ℕ)
 heads slots = map (λ c. c.first) slots
 
-abbrev pub keys : List Cell → List (Option ℕ)
-keys cells = map (λ c. c.key) cells
-
 abbrev pub rows : List Chain → List Cell → Rows
 rows slots cells = record {
   keys = keys cells;
-  nexts = map (λ c. c.next) cells;
-  prevs = map (λ c. c.prev) cells;
+  nexts = nexts cells;
+  prevs = prevs cells;
   heads = heads slots;
 }
 
@@ -62,6 +61,11 @@ pub record Standing (slots : List Chain) (cells : List Cell) (low count : ℕ) :
 abbrev pub or_else : Option ℕ → Option ℕ → Option ℕ
 or_else None o = o
 or_else (Some i) o = Some i
+
+-- the first of a row that is something
+abbrev pub first_some : List (Option ℕ) → Option ℕ
+first_some [] = None
+first_some (o ∷ os) = or_else o (first_some os)
 
 abbrev pub scanned : ℕ → List (Option ℕ) → ℕ → Option ℕ
 scanned zero heads k = None

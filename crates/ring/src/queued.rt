@@ -2,7 +2,6 @@
 ghost use Rattle.ring.specs.Sound.{means, Sound, names};
 
 use crate::Ring;
-use figures::{SLOT_LIMIT, VALUE_LIMIT};
 use queue::{Entry, OfferRefusal, Offered, Queue, TakeRefusal};
 
 impl Queue for Ring<'_> {
@@ -31,41 +30,25 @@ impl Queue for Ring<'_> {
     }
 
     fn band(&self) -> u32 {
-        let slots = self.slots.len();
-        if slots == 0 || slots > SLOT_LIMIT {
-            return 0;
-        }
-        slots as u32 - 1
+        u32::try_from(self.slots.len().saturating_sub(1)).unwrap_or(0)
     }
 
     fn key(&self, item: usize) -> Option<u32> {
         self.key_at(item)
     }
 
+    #[tactic(auto, using(crate::proofs::Scans::chosen_least))]
     fn least(&self) -> Option<Entry> {
         self.pick()
     }
 
     fn offer(&mut self, item: usize, key: u32) -> Result<Offered, OfferRefusal> {
-        if item >= self.size() {
-            return Err(OfferRefusal::NoSuchItem);
-        }
-        if key < self.floor {
-            return Err(OfferRefusal::BelowFloor);
-        }
-        if key - self.floor > self.band() || key > VALUE_LIMIT {
-            return Err(OfferRefusal::BeyondBand);
-        }
+        self.admits(item, key)?;
         Ok(self.admit(item, key))
     }
 
     fn take(&mut self, item: usize) -> Result<(), TakeRefusal> {
-        let Some(key) = self.key_at(item) else {
-            return Err(TakeRefusal::NotWaiting);
-        };
-        if self.waits_below(key) {
-            return Err(TakeRefusal::NotLeast);
-        }
+        let key = self.yields(item)?;
         self.withdraw(item, key);
         Ok(())
     }

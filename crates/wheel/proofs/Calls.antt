@@ -1,5 +1,5 @@
 -- Lemmas on a sound wheel's answers, for its calls as a queue.
-use Rattle.std.proofs.Common.{◌≡◌, ℕ, ◌+◌, ◌*◌, ◌/◌, ◌^◌, ◌<◌, ◌≤◌, min, length, get_or, set, replicate, IfErr, Some, None, Ok, Err, Result, sym, refl, ap, ◌∙◌, subst, ⊎_elim, add-mul, zero-mul, arith}
+use Rattle.std.proofs.Common.{◌≡◌, ℕ, ◌+◌, ◌*◌, ◌/◌, ◌%◌, ◌^◌, ◌<◌, ◌≤◌, min, length, get_or, set, replicate, Some, None, Ok, Err, Result, sym, refl, ap, ◌∙◌, subst, ⊎_elim, add-mul, zero-mul, arith}
 use Rattle.std.proofs.lemmas.Bool.{cases_lt}
 use Rattle.figures.specs.Limits.{cell_limit}
 use Rattle.queue.specs.declared.Entry.{Entry}
@@ -7,9 +7,9 @@ use Rattle.queue.specs.declared.TakeRefusal.{TakeRefusal}
 use Rattle.queue.specs.declared.TakeRefusal.TheVariants.{NotWaiting, NotLeast}
 use Rattle.queue.specs.Meaning.{Meaning, key_of, capacity, held, waiting, cleared, taken, Least, Lowest, Banded, Takes}
 use Rattle.wheel.specs.declared.rim.Rim.{Rim}
-use Rattle.wheel.specs.Joined.{either_key, wheel_meaning, Agree}
-use Rattle.wheel.specs.Rims.{rim_keys, rim_least, RimSound, Becomes}
-use Rattle.wheel.specs.Wheels.{base, whole, WheelSound, Due, Figures, Fresh}
+use Rattle.wheel.specs.Joined.{either_key, joined, wheel_meaning, Agree}
+use Rattle.wheel.specs.Rims.{rim_keys, rim_least, Becomes}
+use Rattle.wheel.specs.Wheels.{base, whole, WheelSound, wheel_named, Due, Figures, Fresh}
 use Rattle.queue.proofs.Meanings.{held_most, none_in_replicate}
 use Rattle.chains.proofs.Threads.{none_some, same_some}
 use Rattle.chains.proofs.Slots.{some_lt}
@@ -17,35 +17,35 @@ use Rattle.wheel.specs.Banded.{length_joined, none_read, key_of_wheel, from_rim,
 use Rattle.wheel.proofs.Rows.{held_joined}
 use Rattle.wheel.proofs.Quotients.{quotient_low, quotient_high, quotient_from}
 use Rattle.wheel.proofs.Model.{least_below, least_later, take_below, agree_taken, wheel_cleared, agree_cleared, agree_blank, joined_none}
-use Rattle.wheel.proofs.Rims.{rim_least_is}
+use Rattle.wheel.proofs.Rims.{later_is, rim_least_is}
 use Rattle.wheel.proofs.Turning.{agree_becomes, whole_becomes, has_width, next_base}
 
 module _ (a : ℕ) (r : Rim) (b : Meaning) (sound : WheelSound a r b) where
   pub base_small : base a r < 2 ^ 32
-  base_small = let z = sound.1.floor_small in omega arith
+  base_small = let z = sound.floor_small in omega arith
 
   -- a key below, as the wheel gives it
   pub key_fits : (i l : ℕ) → key_of b i ≡ Some l → base a r + l < 2 ^ 32
-  key_fits i l h = let z = sound.1.near i l h in omega arith
+  key_fits i l h = let z = sound.near i l h in omega arith
 
   pub waiting_is : waiting (whole a r b) ≡ held b.waits + held (rim_keys r)
-  waiting_is = held_joined (base a r) (rim_keys r) b.waits sound.1.apart sound.1.inside
+  waiting_is = held_joined (base a r) (rim_keys r) b.waits sound.apart sound.inside
 
   pub waiting_few : waiting (whole a r b) ≤ 1600
   waiting_few =
       let l = held_most (whole a r b).waits in
       let e = length_joined (base a r) (rim_keys r) b.waits in
-      let f = sound.1.few in
+      let f = sound.few in
       omega arith
 
   pub key_is : (i : ℕ) → key_of (whole a r b) i ≡ either_key (base a r) (get_or (rim_keys r) i None) (key_of b i)
-  key_is = key_of_wheel (base a r + r.width) (base a r) r.width (rim_keys r) b sound.1
+  key_is = key_of_wheel sound
 
   pub key_in_rim : (i k : ℕ) → get_or (rim_keys r) i None ≡ Some k → key_of (whole a r b) i ≡ Some k
-  key_in_rim = from_rim (base a r + r.width) (base a r) r.width (rim_keys r) b sound.1
+  key_in_rim = from_rim sound
 
   pub key_below : (i l : ℕ) → key_of b i ≡ Some l → key_of (whole a r b) i ≡ Some (base a r + l)
-  key_below = from_below (base a r + r.width) (base a r) r.width (rim_keys r) b sound.1
+  key_below = from_below sound
 
   pub key_nowhere : (i : ℕ) → get_or (rim_keys r) i None ≡ None → key_of b i ≡ None → key_of (whole a r b) i ≡ None
   key_nowhere i p q = let e = key_is i in cc
@@ -54,9 +54,9 @@ module _ (a : ℕ) (r : Rim) (b : Meaning) (sound : WheelSound a r b) where
   pub window : (i k : ℕ) → get_or (rim_keys r) i None ≡ Some k → (a < k / r.width) × (k / r.width ≤ a + 64)
   window i k h =
       let l = some_lt (rim_keys r) i k h in
-      let pos = has_width (base a r + r.width) (base a r) r.width (rim_keys r) b i sound.1 l in
-      let z = sound.1.later i k h in
-      let n = sound.1.floor_near pos in
+      let pos = has_width i sound l in
+      let z = sound.later i k h in
+      let n = sound.floor_near pos in
       let e = next_base a r.width in
       let low = quotient_from r.width k (a + 1) pos (omega arith) in
       let high : k / r.width < a + 65 = ⊎_elim (λ x. x)
@@ -65,12 +65,12 @@ module _ (a : ℕ) (r : Rim) (b : Meaning) (sound : WheelSound a r b) where
       (omega arith, omega arith)
 
   pub least_from_below : (e : Entry) → Least b (Some e) → Least (whole a r b) (Some (record { item = e.item; key = base a r + e.key }))
-  least_from_below e h = least_below (base a r + r.width) (base a r) r.width (rim_keys r) b sound.1 e refl h
+  least_from_below e h = least_below sound e refl h
 
   pub least_from_rim : Least b None → Least (whole a r b) (rim_least a r)
   least_from_rim none =
-      least_later (base a r + r.width) (base a r) r.width (rim_keys r) b sound.1 (rim_least a r) none
-      (rim_least_is r sound.0 a window)
+      least_later sound (rim_least a r) none
+      (rim_least_is r a window)
 
   -- nothing waits any more
   pub all_cleared : (s : Rim) (c : Meaning) → Becomes r (replicate (length (rim_keys r)) None) s → c ≡ cleared b
@@ -80,15 +80,12 @@ module _ (a : ℕ) (r : Rim) (b : Meaning) (sound : WheelSound a r b) where
       let ks = replicate (length (rim_keys r)) None in
       let agree2 : Agree (0 * r.width + r.width) (0 * r.width) r.width ks (cleared b)
       = subst (λ v. Agree (v + r.width) v r.width ks (cleared b)) (sym z)
-      (agree_cleared (base a r + r.width) (base a r) r.width (rim_keys r) b sound.1) in (
-        (
-          new.sound,
-          subst (λ v. Agree (base 0 s + s.width) (base 0 s) s.width (rim_keys s) v) (sym is)
-              (agree_becomes (λ v. 0 * v + v) 0 r s ks (cleared b) new agree2),
-        ),
+      (agree_cleared sound) in (
+        subst (λ v. Agree (base 0 s + s.width) (base 0 s) s.width (rim_keys s) v) (sym is)
+            (agree_becomes (λ v. 0 * v + v) 0 r s ks (cleared b) new agree2),
         ap (whole 0 s) is ∙ whole_becomes 0 r s ks (cleared b) new
             ∙ ap (λ v. wheel_meaning v r.width ks (cleared b)) z
-            ∙ wheel_cleared (base a r + r.width) (base a r) r.width (rim_keys r) b sound.1,
+            ∙ wheel_cleared sound,
       )
 
 -- The item, which waits at key k, lies below: its compartment is current. Nothing else of the meaning has changed.
@@ -104,12 +101,12 @@ module _ (a : ℕ) (r : Rim) (b : Meaning) (sound : WheelSound a r b) (i k q : �
   pub is_due : get_or (rim_keys r) i None ≡ Some k → Due a r b q
   is_due here =
       let l = some_lt (rim_keys r) i k here in
-      let pos = has_width (base a r + r.width) (base a r) r.width (rim_keys r) b i sound.1 l in
-      let z = sound.1.later i k here in
+      let pos = has_width i sound l in
+      let z = sound.later i k here in
       let start = quotient_low r.width k q (omega arith) in
       record {
         bare = λ j. none_read (key_of b j) (λ l p.
-            let y = lowest j (base a r + l) (key_below a r b sound j l p) in let n = sound.1.near j l p in omega arith);
+            let y = lowest j (base a r + l) (key_below a r b sound j l p) in let n = sound.near j l p in omega arith);
         wide = pos;
         after = let v = window a r b sound i k here in omega arith;
         small = omega arith;
@@ -125,7 +122,7 @@ module _ (a : ℕ) (r : Rim) (b : Meaning) (sound : WheelSound a r b) (i k q : �
     below = none_read (get_or (rim_keys s) i None) (λ l p.
         let here = key_in_rim q s c new i l p in
         let e : l ≡ k = same_some here (ap (λ v. get_or v i None) same ∙ waits) in
-        let z : q * r.width + r.width ≤ l = subst (λ v. q * v + v ≤ l) width (new.1.later i l p).0 in
+        let z : q * r.width + r.width ≤ l = subst (λ v. q * v + v ≤ l) width (new.later i l p).0 in
         let y = quotient_high r.width k q pos (omega arith) in
         omega arith);
   }
@@ -138,12 +135,12 @@ module _ (m : Meaning) (w i k : ℕ) (a : ℕ) (r : Rim) (b : Meaning) (ready : 
 
   lies_below : (l : ℕ) × (key_of b i ≡ Some l) × (k ≡ base a r + l)
   lies_below = ⊎_elim (λ p. absurd (none_some ready.below p)) (λ p. (p.0, p.1, p.2))
-      (splits (base a r + r.width) (base a r) r.width (rim_keys r) b ready.sound.1 i k (same_key i ∙ waits))
+      (splits ready.sound i k (same_key i ∙ waits))
 
   taken_is : (l : ℕ) (c : Meaning) → key_of b i ≡ Some l → k ≡ base a r + l → c ≡ taken b i l → whole a r c ≡ taken m i k
   taken_is l c here key is =
       ap (whole a r) is
-      ∙ take_below (base a r + r.width) (base a r) r.width (rim_keys r) b ready.sound.1 i l here
+      ∙ take_below ready.sound i l here
       ∙ ap (λ v. record { waits = set v i None; floor = base a r + l; band = r.width * 64 }) ready.waits
       ∙ ap (λ v. record { waits = set m.waits i None; floor = v; band = r.width * 64 }) (sym key)
       ∙ ap (λ v. record { waits = set m.waits i None; floor = k; band = v }) (ap (λ v. v * 64) ready.width ∙ sym wide)
@@ -153,11 +150,8 @@ module _ (m : Meaning) (w i k : ℕ) (a : ℕ) (r : Rim) (b : Meaning) (ready : 
       let p = lies_below in
       let e : t.0 ≡ p.0 = same_some t.1 p.1 in (
         (k, waits, lowest, taken_is t.0 c t.1 (p.2 ∙ ap (λ v. base a r + v) (sym e)) t.3),
-        (
-          ready.sound.0,
-          subst (λ v. Agree (base a r + r.width) (base a r) r.width (rim_keys r) v) (sym t.3)
-              (agree_taken (base a r + r.width) (base a r) r.width (rim_keys r) b ready.sound.1 i t.0 banded t.1),
-        ),
+        subst (λ v. Agree (base a r + r.width) (base a r) r.width (rim_keys r) v) (sym t.3)
+            (agree_taken ready.sound i t.0 banded t.1),
       )
   taken_below (Err NotWaiting) c t = absurd (none_some t.0 lies_below.1)
   taken_below (Err NotLeast) c t =
@@ -189,24 +183,17 @@ module _ (a : ℕ) (r : Rim) (b : Meaning) (sound : WheelSound a r b) (banded : 
         same_sound c t.1,
       )
 
--- what a refused call leaves, told by what it follows from
-pub still_refused : {X Y P Q : Type 0} (o : Result X Y) → (P → Q) → IfErr o (λ _. P) → IfErr o (λ _. Q)
-still_refused (Ok x) f p = p
-still_refused (Err y) f p = f p
-
 -- a wheel just made
-module _ (w n : ℕ) (b c : Meaning) (r : Rim) (is : c ≡ cleared b) (sound : RimSound r) (width : r.width ≡ w)
+module _ (w n : ℕ) (b c : Meaning) (r : Rim) (is : c ≡ cleared b) (width : r.width ≡ w)
     (keys : rim_keys r ≡ replicate n None) where
   fresh_sound : n ≤ capacity b → w ≤ b.band + 1 → n ≤ 1600 → w ≤ 4096 → (w ≡ 0 → n ≡ 0) → WheelSound 0 r c
   fresh_sound room wide few narrow bare =
       let z = zero-mul w in
-      let agree = agree_blank w n b room wide few narrow bare in (
-        sound,
-        subst (λ v. Agree (0 * v + v) (0 * v) v (rim_keys r) c) (sym width)
-            (subst (λ v. Agree (0 * w + w) (0 * w) w v c) (sym keys)
-            (subst (λ v. Agree (v + w) v w (replicate n None) c) (sym z)
-            (subst (λ v. Agree (0 + w) 0 w (replicate n None) v) (sym is) agree))),
-      )
+      let agree = agree_blank w n b room wide few narrow bare in
+      subst (λ v. Agree (0 * v + v) (0 * v) v (rim_keys r) c) (sym width)
+      (subst (λ v. Agree (0 * w + w) (0 * w) w v c) (sym keys)
+      (subst (λ v. Agree (v + w) v w (replicate n None) c) (sym z)
+      (subst (λ v. Agree (0 + w) 0 w (replicate n None) v) (sym is) agree)))
 
   fresh_whole : whole 0 r c ≡ record { waits = replicate n None; floor = 0; band = w * 64 }
   fresh_whole =
@@ -219,23 +206,64 @@ module _ (w n : ℕ) (b c : Meaning) (r : Rim) (is : c ≡ cleared b) (sound : R
 
 -- within the figures, and outside them
 pub made_good : (w n : ℕ) (b c : Meaning) (r : Rim) → c ≡ cleared b → Figures w b.band → n ≡ min (capacity b) cell_limit
-    → (r.width ≡ w) × (rim_keys r ≡ replicate n None) × RimSound r → WheelSound 0 r c × Fresh w b (whole 0 r c)
+    → (r.width ≡ w) × (rim_keys r ≡ replicate n None) → WheelSound 0 r c × Fresh w b (whole 0 r c)
 made_good w n b c r is figures capacity new = (
-  fresh_sound w n b c r is new.2 new.0 new.1 (omega arith) figures.room (omega arith) figures.widest
+  fresh_sound w n b c r is new.0 new.1 (omega arith) figures.room (omega arith) figures.widest
       (λ z. let y = figures.least in absurd (omega arith)),
   record {
-    good = λ f. fresh_whole w n b c r is new.2 new.0 new.1
+    good = λ f. fresh_whole w n b c r is new.0 new.1
         ∙ ap (λ v. record { waits = replicate v None; floor = 0; band = w * 64 }) capacity;
     bad = λ f. absurd (f figures);
   },
 )
 
 pub made_bad : (w : ℕ) (b c : Meaning) (r : Rim) → c ≡ cleared b → (Figures w b.band → ⊥)
-    → (r.width ≡ 0) × (rim_keys r ≡ replicate 0 None) × RimSound r → WheelSound 0 r c × Fresh w b (whole 0 r c)
+    → (r.width ≡ 0) × (rim_keys r ≡ replicate 0 None) → WheelSound 0 r c × Fresh w b (whole 0 r c)
 made_bad w b c r is figures new = (
-  fresh_sound 0 0 b c r is new.2 new.0 new.1 (omega arith) (omega arith) (omega arith) (omega arith) (λ z. refl),
+  fresh_sound 0 0 b c r is new.0 new.1 (omega arith) (omega arith) (omega arith) (omega arith) (λ z. refl),
   record {
     good = λ f. absurd (figures f);
-    bad = λ f. fresh_whole 0 0 b c r is new.2 new.0 new.1;
+    bad = λ f. fresh_whole 0 0 b c r is new.0 new.1;
   },
 )
+
+-- The answers of a wheel's calls, in the form in which the check applies them.
+module _ (a : ℕ) (r : Rim) (b : Meaning) (sound : WheelSound a r b) where
+  pub waiting_sum : (n m : ℕ) → n ≡ held b.waits → m ≡ r.later → (n + m) % 2 ^ 64 ≡ held (joined (base a r) (rim_keys r) b.waits)
+  waiting_sum n m p q = let e = waiting_is a r b sound in let f = waiting_few a r b sound in let l = later_is r in omega arith
+
+  pub key_above : (i l n : ℕ) → get_or (rim_keys r) i None ≡ None → key_of b i ≡ Some l → (base a r < 2 ^ 32 → n ≡ base a r)
+      → Some ((n + l) % 2 ^ 32) ≡ key_of (whole a r b) i
+  key_above i l n none here start =
+      let e = start (base_small a r b sound) in let f = key_fits a r b sound i l here in
+      let k : (n + l) % 2 ^ 32 ≡ base a r + l = omega arith in
+      ap Some k ∙ sym (key_below a r b sound i l here)
+
+  pub cleared_whole : (s : Rim) (c : Meaning) → Becomes r (replicate (length (rim_keys r)) None) s → c ≡ cleared b
+      → whole 0 s c ≡ cleared (whole a r b)
+  cleared_whole s c new is = (all_cleared a r b sound s c new is).1
+
+  pub cleared_sound : (s : Rim) (c : Meaning) → Becomes r (replicate (length (rim_keys r)) None) s → c ≡ cleared b → WheelSound 0 s c
+  cleared_sound s c new is = (all_cleared a r b sound s c new is).0
+
+  -- the entry that the queue below names, as the wheel gives it
+  module _ (i k n : ℕ) (here : key_of b i ≡ Some k) (start : base a r < 2 ^ 32 → n ≡ base a r) where
+    sum_is : (n + k) % 2 ^ 32 ≡ base a r + k
+    sum_is = let z = start (base_small a r b sound) in let f = key_fits a r b sound i k here in omega arith
+
+    pub named_sum : Some (record { item = i; key = (n + k) % 2 ^ 32 }) ≡ wheel_named a r (Some (record { item = i; key = k }))
+    named_sum = ap (λ v. Some (record { item = i; key = v })) sum_is
+
+    pub least_key : key_of (whole a r b) i ≡ Some ((n + k) % 2 ^ 32)
+    least_key = key_below a r b sound i k here ∙ ap Some (sym sum_is)
+
+    pub least_low : Lowest b k → (j l : ℕ) → key_of (whole a r b) j ≡ Some l → (n + k) % 2 ^ 32 ≤ l
+    least_low low j l there =
+        let z = (least_from_below a r b sound (record { item = i; key = k }) (here, low)).1 j l there in let e = sum_is in omega arith
+
+-- what the check is to apply at each call of a wheel
+pub ruleset clears = (cleared_whole, cleared_sound)
+
+pub ruleset keyed = (key_in_rim, key_above, key_nowhere)
+
+pub ruleset names = (named_sum, least_key, least_low, least_from_rim)

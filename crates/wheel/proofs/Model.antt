@@ -61,25 +61,25 @@ agree_blank w n b room wide few narrow bare =
       bare = λ z. let y = bare z in omega arith;
     }
 
-module _ (from base w : ℕ) (ks : List (Option ℕ)) (b : Meaning) (agree : Agree from base w ks b) where
+module _ {from base w : ℕ} {ks : List (Option ℕ)} {b : Meaning} (agree : Agree from base w ks b) where
   -- a least item below is a least item of the wheel
   pub least_below : (e : Entry) → from ≡ base + w → Least b (Some e)
       → Least (wheel_meaning base w ks b) (Some (record { item = e.item; key = base + e.key }))
   least_below e start h = (
-    from_below from base w ks b agree e.item e.key h.0,
+    from_below agree e.item e.key h.0,
     λ j l q. ⊎_elim
         (λ r. let f = agree.later j l r in let z = agree.near e.item e.key h.0 in omega arith)
         (λ s. let z = h.1 j s.0 s.1 in let y = s.2 in omega arith)
-        (splits from base w ks b agree j l q),
+        (splits agree j l q),
   )
 
   -- while nothing waits below, a least item of the compartments is one of the wheel
   pub least_later : (o : Option Entry) → Least b None → Least (record { waits = ks; floor = 0; band = 0 }) o
       → Least (wheel_meaning base w ks b) o
-  least_later None none h = λ j. let e = key_of_wheel from base w ks b agree j in let p = h j in let q = none j in cc
+  least_later None none h = λ j. let e = key_of_wheel agree j in let p = h j in let q = none j in cc
   least_later (Some e) none h = (
-    from_rim from base w ks b agree e.item e.key h.0,
-    λ j l q. ⊎_elim (λ r. h.1 j l r) (λ s. absurd (none_some (none j) s.1)) (splits from base w ks b agree j l q),
+    from_rim agree e.item e.key h.0,
+    λ j l q. ⊎_elim (λ r. h.1 j l r) (λ s. absurd (none_some (none j) s.1)) (splits agree j l q),
   )
 
   -- an item that goes below, out of its compartment if it waited there

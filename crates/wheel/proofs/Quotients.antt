@@ -1,14 +1,11 @@
 -- Lemmas on keys, the numbers of their compartments, and the places of these in the table.
 use Rattle.std.proofs.Common.{◌≡◌, ℕ, ◌+◌, ◌*◌, ◌/◌, ◌%◌, ◌<◌, ◌≤◌, ap, ◌∙◌, ⊎_elim, mul-le-mul_right, add-mul, one-mul, div-mul-le_self, arith}
-use native.Mathlib.Nat.{div-eq_of_lt-le, lt-div-mul-add, div-zero}
+use native.Mathlib.Nat.{lt-div-mul-add, div-zero}
 use Rattle.std.proofs.lemmas.Bool.{cases_lt}
 
 -- 64 numbers in a row have 64 places
 pub same_place : (x q r : ℕ) → x ≤ q → q < x + 64 → x ≤ r → r < x + 64 → q % 64 ≡ r % 64 → q ≡ r
 same_place x q r a b c d e = omega arith
-
-pub quotient_is : (q w k : ℕ) → q * w ≤ k → k < q * w + w → k / w ≡ q
-quotient_is q w k low high = div-eq_of_lt-le w low (let e = add-mul q 1 w in let o = one-mul w in omega arith)
 
 -- where a key of compartment q lies
 pub quotient_low : (w k q : ℕ) → q ≤ k / w → q * w ≤ k

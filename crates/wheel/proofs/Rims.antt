@@ -1,22 +1,25 @@
 -- Lemmas on a rim: what keeps it sound, and what it names.
-use Rattle.std.proofs.Common.{◌≡◌, ℕ, zero, suc, ◌+◌, ◌-◌, ◌/◌, ◌%◌, ◌^◌, ◌<◌, ◌≤◌, eqb, ltb, List, [], ◌∷◌, map, length, get_or, set, replicate, Some, None, vec_items, vec_len, Option, sym, refl, ap, ◌∙◌, subst, inl, ⊎_elim, mod-lt, arith}
-use Rattle.std.specs.Vec.{with_item, with_items}
-use Rattle.std.proofs.lemmas.List.{get_or_past, get_or-map, map-set, set-get_or, with_items_is, get_or-set_same, get_or-set_other, get_or-replicate, length-map, length-replicate, length-set}
+use Rattle.std.proofs.Common.{◌≡◌, ℕ, zero, suc, ◌+◌, ◌-◌, ◌/◌, ◌%◌, ◌^◌, ◌<◌, ◌≤◌, eqb, ltb, List, [], ◌∷◌, map, length, get_or, set, replicate, Some, None, Option, sym, refl, ap, ◌∙◌, subst, inl, ⊎_elim, mod-lt, arith}
+use Rattle.std.proofs.Math.Logic.{∥∥₁_elim, ∥∥₁_map}
+use Rattle.std.proofs.Props.{props}
+use Rattle.std.specs.Vec.{with_items}
+use Rattle.std.proofs.lemmas.List.{with_items_is, get_or-map, map-set, get_or-set_same, get_or-set_other, get_or-replicate, length-map, length-set}
 use Rattle.std.proofs.lemmas.Bool.{cases_eq, cases_lt, cond_both, eqb-true, eqb-false, ltb-true, ltb-false}
-use Rattle.chains.specs.declared.Chain.{Chain}
+use Rattle.chains.specs.declared.cells.Cell.{Cell}
+use Rattle.chains.specs.Cells.{blank, keys, nexts, prevs}
 use Rattle.chains.specs.Links.{fronted, fronted_prevs, unlinked, unlinked_nexts, unlinked_prevs}
 use Rattle.chains.specs.Threads.{Mem, Chained, without}
 use Rattle.chains.specs.Slots.{Slotted, entered, left, more, fewer}
-use Rattle.chains.proofs.Threads.{length_without}
+use Rattle.chains.proofs.Threads.{length_without, none_some, same_some}
 use Rattle.chains.proofs.Slots.{slotted_none, slot_empty, slot_first, slotted_entered, slotted_left, slot_length, some_lt}
 use Rattle.queue.specs.declared.Entry.{Entry}
 use Rattle.queue.specs.Meaning.{held, Least}
 use Rattle.queue.proofs.Meanings.{held_enter, held_take, held_most, none_held, none_in_replicate}
-use Rattle.wheel.specs.declared.rim.Cell.{Cell}
 use Rattle.wheel.specs.declared.rim.Compartment.{Compartment}
 use Rattle.wheel.specs.declared.rim.Rim.{Rim}
 use Rattle.wheel.specs.Later.{first_held, nearer, scan}
-use Rattle.wheel.specs.Rims.{blank, vacant, cell_key, cell_next, cell_prev, rim_keys, rim_nexts, rim_prevs, rim_firsts, rim_counts, rim_rows, place_of, least_at, rim_least, RimSound, Lies, Becomes}
+use Rattle.wheel.specs.Compartments.{vacant, firsts_of, counts_of, rows_of, place_of, RimSound}
+use Rattle.wheel.specs.Rims.{rim_keys, rim_nexts, rim_firsts, rim_counts, least_at, rim_least, Lies}
 use Rattle.wheel.specs.Banded.{none_read}
 use Rattle.wheel.proofs.Rows.{held_none}
 use Rattle.wheel.proofs.Quotients.{same_place, quotient_lt}
@@ -26,269 +29,150 @@ pub map_replicate : {X Y : Type 0} (f : X → Y) (n : ℕ) (x : X) → map f (re
 map_replicate f zero x = refl
 map_replicate f (suc n) x = ap (λ l. f x ∷ l) (map_replicate f n x)
 
-replicate_zero : (n i : ℕ) → get_or {A = ℕ} (replicate n 0) i 0 ≡ 0
-replicate_zero n i = ⊎_elim (λ l. get_or-replicate {A = ℕ} n i 0 0 l)
-    (λ g. get_or_past {X = ℕ} (replicate n 0) i 0 (let e = length-replicate {A = ℕ} n 0 in omega arith)) (cases_lt i n)
+abbrev cell_key : Cell → Option ℕ
+cell_key c = c.key
+
+abbrev cell_next : Cell → Option ℕ
+cell_next c = c.next
+
+abbrev cell_prev : Cell → Option ℕ
+cell_prev c = c.prev
+
+abbrev first_of : Compartment → Option ℕ
+first_of c = c.chain.first
+
+abbrev count_of : Compartment → ℕ
+count_of c = c.count
 
 -- the counts of lists, one of which is longer or shorter by one item
 module _ (cs : List ℕ) (lists : ℕ → List ℕ) (counted : (q : ℕ) → q < 64 → get_or cs q 0 ≡ length (lists q))
     (long : length cs ≡ 64) (p : ℕ) (place : p < 64) (i : ℕ) where
-  counted_more : length (lists p) + 1 < 2 ^ 64 → (t : ℕ) → t < 64
-      → get_or (set cs p ((get_or cs p 0 + 1) % 2 ^ 64)) t 0 ≡ length (more lists p i t)
-  counted_more small t l =
-      cond_both (eqb t p) (i ∷ lists t) (lists t) (λ x. get_or (set cs p ((get_or cs p 0 + 1) % 2 ^ 64)) t 0 ≡ length x)
-      (λ e. subst (λ u. get_or (set cs p ((get_or cs p 0 + 1) % 2 ^ 64)) u 0 ≡ suc (length (lists u))) (sym (eqb-true t p e))
-      (let c = counted p place in get_or-set_same cs p ((get_or cs p 0 + 1) % 2 ^ 64) 0 (omega arith) ∙ omega arith))
-      (λ e. get_or-set_other cs p t ((get_or cs p 0 + 1) % 2 ^ 64) 0 (eqb-false t p e) ∙ counted t l)
+  counted_more : (t : ℕ) → t < 64 → get_or (set cs p (get_or cs p 0 + 1)) t 0 ≡ length (more lists p i t)
+  counted_more t l =
+      cond_both (eqb t p) (i ∷ lists t) (lists t) (λ x. get_or (set cs p (get_or cs p 0 + 1)) t 0 ≡ length x)
+      (λ e. subst (λ u. get_or (set cs p (get_or cs p 0 + 1)) u 0 ≡ suc (length (lists u))) (sym (eqb-true t p e))
+      (let c = counted p place in get_or-set_same cs p (get_or cs p 0 + 1) 0 (omega arith) ∙ omega arith))
+      (λ e. get_or-set_other cs p t (get_or cs p 0 + 1) 0 (eqb-false t p e) ∙ counted t l)
 
-  counted_fewer : Mem i (lists p) → length (lists p) < 2 ^ 64 → (t : ℕ) → t < 64
-      → get_or (set cs p ((get_or cs p 0 + (2 ^ 64 - 1)) % 2 ^ 64)) t 0 ≡ length (fewer lists p i t)
-  counted_fewer here small t l =
-      cond_both (eqb t p) (without i (lists t)) (lists t) (λ x. get_or (set cs p ((get_or cs p 0 + (2 ^ 64 - 1)) % 2 ^ 64)) t 0 ≡ length x)
-      (λ e. subst (λ u. get_or (set cs p ((get_or cs p 0 + (2 ^ 64 - 1)) % 2 ^ 64)) u 0 ≡ length (without i (lists u))) (sym (eqb-true t p e))
+  counted_fewer : Mem i (lists p) → (t : ℕ) → t < 64
+      → get_or (set cs p (get_or cs p 0 - 1)) t 0 ≡ length (fewer lists p i t)
+  counted_fewer here t l =
+      cond_both (eqb t p) (without i (lists t)) (lists t) (λ x. get_or (set cs p (get_or cs p 0 - 1)) t 0 ≡ length x)
+      (λ e. subst (λ u. get_or (set cs p (get_or cs p 0 - 1)) u 0 ≡ length (without i (lists u))) (sym (eqb-true t p e))
       (let c = counted p place in let v = length_without i (lists p) here in
-      get_or-set_same cs p ((get_or cs p 0 + (2 ^ 64 - 1)) % 2 ^ 64) 0 (omega arith) ∙ omega arith))
-      (λ e. get_or-set_other cs p t ((get_or cs p 0 + (2 ^ 64 - 1)) % 2 ^ 64) 0 (eqb-false t p e) ∙ counted t l)
+      get_or-set_same cs p (get_or cs p 0 - 1) 0 (omega arith) ∙ omega arith))
+      (λ e. get_or-set_other cs p t (get_or cs p 0 - 1) 0 (eqb-false t p e) ∙ counted t l)
 
 -- a place lies in the table
 pub place_lt : (w k : ℕ) → place_of w k < 64
 place_lt w k = mod-lt (k / w) (omega arith)
 
--- a rim of blank cells and vacant compartments
-pub blank_keys : (r : Rim) (n : ℕ) → vec_items r.cells ≡ replicate n blank → rim_keys r ≡ replicate n None
-blank_keys r n cells = ap (map cell_key) cells ∙ map_replicate cell_key n blank
+-- blank cells and vacant compartments
+pub blank_keys : (n : ℕ) (cells : List Cell) → cells ≡ replicate n blank → keys cells ≡ replicate n None
+blank_keys n cells is = ap keys is ∙ map_replicate cell_key n blank
 
-pub blank_sound : (r : Rim) (n : ℕ) → vec_items r.cells ≡ replicate n blank → vec_items r.table ≡ replicate 64 vacant
-    → r.later ≡ 0 → RimSound r
-blank_sound r n cells table later =
-    let keys : rim_keys r ≡ replicate n None = blank_keys r n cells in
-    let none : (i : ℕ) → get_or (rim_keys r) i None ≡ None = λ i. subst (λ l. get_or l i None ≡ None) (sym keys) (none_in_replicate n i) in
-    let firsts : rim_firsts r ≡ replicate 64 None = ap (map (λ c. c.chain.first)) table ∙ map_replicate (λ c. c.chain.first) 64 vacant in
-    let counts : rim_counts r ≡ replicate 64 0 = ap (map (λ c. c.count)) table ∙ map_replicate (λ c. c.count) 64 vacant in
-    record {
+pub blank_sound : (w n : ℕ) (cells : List Cell) (table : List Compartment) → cells ≡ replicate n blank → table ≡ replicate 64 vacant
+    → ∥ RimSound w 0 cells table ∥₁
+blank_sound w n cells table blanks vacants =
+    let all : keys cells ≡ replicate n None = blank_keys n cells blanks in
+    let none : (i : ℕ) → get_or (keys cells) i None ≡ None = λ i. subst (λ l. get_or l i None ≡ None) (sym all) (none_in_replicate n i) in
+    let firsts : firsts_of table ≡ replicate 64 None = ap firsts_of vacants ∙ map_replicate first_of 64 vacant in
+    let counts : counts_of table ≡ replicate 64 0 = ap counts_of vacants ∙ map_replicate count_of 64 vacant in
+    ∣ record {
       lists = λ s. [];
-      slotted = slotted_none (place_of r.width) (rim_rows r)
-          (length-map (vec_items r.cells) cell_next ∙ sym (length-map (vec_items r.cells) cell_key))
-          (length-map (vec_items r.cells) cell_prev ∙ sym (length-map (vec_items r.cells) cell_key))
+      slotted = slotted_none (place_of w) (rows_of cells table)
+          (length-map cells cell_next ∙ sym (length-map cells cell_key))
+          (length-map cells cell_prev ∙ sym (length-map cells cell_key))
           none (λ s. subst (λ l. get_or l s None ≡ None) (sym firsts) (none_in_replicate 64 s));
-      counted = λ p l. subst (λ c. get_or c p 0 ≡ 0) (sym counts) (replicate_zero 64 p);
-      later = later ∙ sym (held_none (rim_keys r) none);
-      tabled = r.table.ok.0 ∙ ap length table;
-    }
+      counted = λ p l. subst (λ c. get_or c p 0 ≡ 0) (sym counts) (get_or-replicate {A = ℕ} 64 p 0 0 l);
+      later_is = sym (held_none (keys cells) none);
+    } ∣₁
 
-module _ (r : Rim) (h : RimSound r) where
-  firsts_long : length (rim_firsts r) ≡ 64
-  firsts_long = length-map (vec_items r.table) (λ c. c.chain.first) ∙ sym r.table.ok.0 ∙ h.tabled
+module _ (w later : ℕ) (cells : List Cell) (table : List Compartment) (h : RimSound w later cells table) where
+  -- no more items wait than there are, in all and in one compartment
+  pub later_most : later ≤ length (keys cells)
+  later_most = let e = h.later_is in let m = held_most (keys cells) in omega arith
 
-  counts_long : length (rim_counts r) ≡ 64
-  counts_long = length-map (vec_items r.table) (λ c. c.count) ∙ sym r.table.ok.0 ∙ h.tabled
+  pub count_most : (p : ℕ) → p < 64 → get_or (counts_of table) p 0 ≤ length (keys cells)
+  count_most p l =
+      let e = h.counted p l in let m = slot_length (place_of w) (rows_of cells table) h.lists h.slotted p in omega arith
 
-  -- nothing waits where nothing is counted
-  pub idle : r.later ≡ 0 → rim_keys r ≡ replicate (length (rim_keys r)) None
-  idle z = none_held (rim_keys r) (sym h.later ∙ z)
+  -- an item that waits is counted
+  pub later_held : (i k : ℕ) → get_or (keys cells) i None ≡ Some k → 0 < later
+  later_held i k here =
+      let e = h.later_is in let m = held_take (keys cells) i k (some_lt (keys cells) i k here) here in omega arith
+
+  pub count_held : (i k : ℕ) → get_or (keys cells) i None ≡ Some k → 0 < get_or (counts_of table) (place_of w k) 0
+  count_held i k here =
+      let e = h.counted (place_of w k) (place_lt w k) in
+      let m = length_without i (h.lists (place_of w k)) (h.slotted.waits i k here) in omega arith
 
   -- what the first item of a compartment's chain tells
-  pub lies : (p : ℕ) (o : Option ℕ) → get_or (rim_firsts r) p None ≡ o → Lies r.width (rim_keys r) p o
-  lies p None e = slot_empty (place_of r.width) (rim_rows r) h.lists h.slotted p e
-  lies p (Some i) e = slot_first (place_of r.width) (rim_rows r) h.lists h.slotted p i e
+  pub first_waits : (p i : ℕ) → get_or (firsts_of table) p None ≡ Some i
+      → (k : ℕ) × (get_or (keys cells) i None ≡ Some k) × (place_of w k ≡ p)
+  first_waits p i e = slot_first (place_of w) (rows_of cells table) h.lists h.slotted p i e
 
-  keys_small : length (rim_keys r) < 2 ^ 63
-  keys_small = let a = length-map (vec_items r.cells) cell_key in let b = r.cells.ok.0 in let c = r.cells.small in omega arith
+  pub none_waits : (p : ℕ) → get_or (firsts_of table) p None ≡ None → Lies w (keys cells) p None
+  none_waits p e = slot_empty (place_of w) (rows_of cells table) h.lists h.slotted p e
 
-  -- item i, which does not wait, enters the compartment of key k
-  pub link_becomes : (s : Rim) (i k : ℕ) → i < length (rim_keys r) → get_or (rim_keys r) i None ≡ None
-      → s.width ≡ r.width
-      → vec_len s.table ≡ vec_len r.table
-      → s.later ≡ (r.later + 1) % 2 ^ 64
-      → rim_keys s ≡ set (rim_keys r) i (Some k)
-      → rim_nexts s ≡ set (rim_nexts r) i (get_or (rim_firsts r) (place_of r.width k) None)
-      → rim_prevs s ≡ fronted_prevs (rim_prevs r) i (get_or (rim_firsts r) (place_of r.width k) None)
-      → rim_firsts s ≡ set (rim_firsts r) (place_of r.width k) (fronted (rim_nexts r) i (get_or (rim_firsts r) (place_of r.width k) None))
-      → rim_counts s ≡ set (rim_counts r) (place_of r.width k) ((get_or (rim_counts r) (place_of r.width k) 0 + 1) % 2 ^ 64)
-      → Becomes r (set (rim_keys r) i (Some k)) s
-  link_becomes s i k l n width table later keys nexts prevs firsts counts =
-      let w = r.width in
-      let p = place_of w k in
-      let in_table : p < 64 = place_lt w k in
-      let in_firsts : p < length (rim_firsts r) = omega (arith, firsts_long) in
-      let all = slotted_entered (place_of w) (rim_rows r) h.lists h.slotted i k l n in_firsts in
-      let rows : rim_rows s ≡ entered (place_of w) (rim_rows r) i k = cc in
-      let slotted : Slotted (place_of s.width) (rim_rows s) (more h.lists p i)
-      = subst (λ v. Slotted (place_of v) (rim_rows s) (more h.lists p i)) (sym width)
-      (subst (λ v. Slotted (place_of w) v (more h.lists p i)) (sym rows) all) in
-      record {
-        sound = record {
+  module _ (long : length table ≡ 64) (ds : List Cell) (c : Compartment) (i k : ℕ) where
+    firsts_long : length (firsts_of table) ≡ 64
+    firsts_long = length-map table first_of ∙ long
+
+    counts_long : length (counts_of table) ≡ 64
+    counts_long = length-map table count_of ∙ long
+
+    -- item i, which does not wait, enters the compartment of key k
+    pub linked : i < length (keys cells) → get_or (keys cells) i None ≡ None
+        → c.chain.first ≡ fronted (nexts cells) i (get_or (firsts_of table) (place_of w k) None)
+        → c.count ≡ get_or (counts_of table) (place_of w k) 0 + 1
+        → nexts ds ≡ set (nexts cells) i (get_or (firsts_of table) (place_of w k) None)
+        → prevs ds ≡ fronted_prevs (prevs cells) i (get_or (firsts_of table) (place_of w k) None)
+        → keys ds ≡ set (keys cells) i (Some k)
+        → RimSound w (later + 1) ds (set table (place_of w k) c)
+    linked l n first count next prev key =
+        let p = place_of w k in
+        let in_table : p < 64 = place_lt w k in
+        let firsts : firsts_of (set table p c) ≡ set (firsts_of table) p (fronted (nexts cells) i (get_or (firsts_of table) p None))
+        = map-set first_of table p c ∙ ap (set (firsts_of table) p) first in
+        let counts : counts_of (set table p c) ≡ set (counts_of table) p (get_or (counts_of table) p 0 + 1)
+        = map-set count_of table p c ∙ ap (set (counts_of table) p) count in
+        let all = slotted_entered (place_of w) (rows_of cells table) h.lists h.slotted i k l n (omega (arith, firsts_long)) in
+        let rows : rows_of ds (set table p c) ≡ entered (place_of w) (rows_of cells table) i k = cc in
+        record {
           lists = more h.lists p i;
-          slotted = slotted;
-          counted = λ t lt. subst (λ c. get_or c t 0 ≡ length (more h.lists p i t)) (sym counts)
-              (counted_more (rim_counts r) h.lists h.counted counts_long p in_table i
-              (let a = slot_length (place_of w) (rim_rows r) h.lists h.slotted p in omega (arith, keys_small)) t lt);
-          later =
-              let a = held_enter (rim_keys r) i k l n in
-              let b = held_most (rim_keys r) in
-              let c = h.later in
-              let d : s.later ≡ held (set (rim_keys r) i (Some k)) = omega (arith, keys_small) in
-              d ∙ ap held (sym keys);
-          tabled = table ∙ h.tabled;
-        };
-        keys = keys;
-        width = width;
-      }
+          slotted = subst (λ v. Slotted (place_of w) v (more h.lists p i)) (sym rows) all;
+          counted = λ t lt. subst (λ v. get_or v t 0 ≡ length (more h.lists p i t)) (sym counts)
+              (counted_more (counts_of table) h.lists h.counted counts_long p in_table i t lt);
+          later_is = let e = h.later_is in let a = held_enter (keys cells) i k l n in let b = ap held key in omega arith;
+        }
 
-  -- item i, which waits at key k, leaves its compartment
-  pub unlink_becomes : (s : Rim) (i k : ℕ) → get_or (rim_keys r) i None ≡ Some k
-      → s.width ≡ r.width
-      → vec_len s.table ≡ vec_len r.table
-      → s.later ≡ (r.later + (2 ^ 64 - 1)) % 2 ^ 64
-      → rim_keys s ≡ set (rim_keys r) i None
-      → rim_nexts s ≡ unlinked_nexts (rim_nexts r) (rim_prevs r) i
-      → rim_prevs s ≡ unlinked_prevs (rim_nexts r) (rim_prevs r) i
-      → rim_firsts s ≡ set (rim_firsts r) (place_of r.width k) (unlinked (rim_nexts r) (rim_prevs r) i (get_or (rim_firsts r) (place_of r.width k) None))
-      → rim_counts s ≡ set (rim_counts r) (place_of r.width k) ((get_or (rim_counts r) (place_of r.width k) 0 + (2 ^ 64 - 1)) % 2 ^ 64)
-      → Becomes r (set (rim_keys r) i None) s
-  unlink_becomes s i k here width table later keys nexts prevs firsts counts =
-      let w = r.width in
-      let p = place_of w k in
-      let in_table : p < 64 = place_lt w k in
-      let all = slotted_left (place_of w) (rim_rows r) h.lists h.slotted i k here in
-      let rows : rim_rows s ≡ left (place_of w) (rim_rows r) i k = cc in
-      let slotted : Slotted (place_of s.width) (rim_rows s) (fewer h.lists p i)
-      = subst (λ v. Slotted (place_of v) (rim_rows s) (fewer h.lists p i)) (sym width)
-      (subst (λ v. Slotted (place_of w) v (fewer h.lists p i)) (sym rows) all) in
-      record {
-        sound = record {
+    -- item i, which waits at key k, leaves its compartment
+    pub unlinked_too : get_or (keys cells) i None ≡ Some k
+        → c.chain.first ≡ unlinked (nexts cells) (prevs cells) i (get_or (firsts_of table) (place_of w k) None)
+        → c.count ≡ get_or (counts_of table) (place_of w k) 0 - 1
+        → nexts ds ≡ unlinked_nexts (nexts cells) (prevs cells) i
+        → prevs ds ≡ unlinked_prevs (nexts cells) (prevs cells) i
+        → keys ds ≡ set (keys cells) i None
+        → RimSound w (later - 1) ds (set table (place_of w k) c)
+    unlinked_too here first count next prev key =
+        let p = place_of w k in
+        let in_table : p < 64 = place_lt w k in
+        let firsts : firsts_of (set table p c) ≡ set (firsts_of table) p (unlinked (nexts cells) (prevs cells) i (get_or (firsts_of table) p None))
+        = map-set first_of table p c ∙ ap (set (firsts_of table) p) first in
+        let counts : counts_of (set table p c) ≡ set (counts_of table) p (get_or (counts_of table) p 0 - 1)
+        = map-set count_of table p c ∙ ap (set (counts_of table) p) count in
+        let all = slotted_left (place_of w) (rows_of cells table) h.lists h.slotted i k here in
+        let rows : rows_of ds (set table p c) ≡ left (place_of w) (rows_of cells table) i k = cc in
+        record {
           lists = fewer h.lists p i;
-          slotted = slotted;
-          counted = λ t lt. subst (λ c. get_or c t 0 ≡ length (fewer h.lists p i t)) (sym counts)
-              (counted_fewer (rim_counts r) h.lists h.counted counts_long p in_table i (h.slotted.waits i k here)
-              (let a = slot_length (place_of w) (rim_rows r) h.lists h.slotted p in omega (arith, keys_small)) t lt);
-          later =
-              let a = held_take (rim_keys r) i k (some_lt (rim_keys r) i k here) here in
-              let b = held_most (rim_keys r) in
-              let c = h.later in
-              let d : s.later ≡ held (set (rim_keys r) i None) = omega (arith, keys_small) in
-              d ∙ ap held (sym keys);
-          tabled = table ∙ h.tabled;
-        };
-        keys = keys;
-        width = width;
-      }
-
--- a rim whose cells and compartments were written anew
-pub cleared_becomes : (r : Rim) → RimSound r → (ws : List Cell) (vs : List Compartment)
-    → ws ≡ replicate (length (vec_items r.cells)) blank → vs ≡ replicate (length (vec_items r.table)) vacant
-    → Becomes r (replicate (length (rim_keys r)) None)
-    (record { width = r.width; later = 0; cells = with_items r.cells ws; table = with_items r.table vs })
-cleared_becomes r h ws vs cells table =
-    let s : Rim = record { width = r.width; later = 0; cells = with_items r.cells ws; table = with_items r.table vs } in
-    let long_c = ap length cells ∙ length-replicate (length (vec_items r.cells)) blank ∙ sym r.cells.ok.0 in
-    let long_t = ap length table ∙ length-replicate (length (vec_items r.table)) vacant ∙ sym r.table.ok.0 in
-    let n : length (vec_items r.cells) ≡ length (rim_keys r) = sym (length-map (vec_items r.cells) cell_key) in
-    let m : length (vec_items r.table) ≡ 64 = sym r.table.ok.0 ∙ h.tabled in
-    let new_c : vec_items s.cells ≡ replicate (length (rim_keys r)) blank
-    = with_items_is r.cells ws long_c ∙ cells ∙ ap (λ v. replicate v blank) n in
-    let new_t : vec_items s.table ≡ replicate 64 vacant
-    = with_items_is r.table vs long_t ∙ table ∙ ap (λ v. replicate v vacant) m in
-    record { sound = blank_sound s (length (rim_keys r)) new_c new_t refl; keys = blank_keys s (length (rim_keys r)) new_c; width = refl }
-
--- the row of cells after a write that leaves a field as it was
-pub same_field : {Y : Type 0} (f : Cell → Y) (es : List Cell) (i : ℕ) (x d : Cell) → i < length es → f x ≡ f (get_or es i d)
-    → map f (set es i x) ≡ map f es
-same_field f es i x d l e =
-    map-set f es i x ∙ ap (set (map f es) i) (e ∙ sym (get_or-map f es i d (f d) l)) ∙ set-get_or (map f es) i (f d)
-
--- links are no part of a key
-pub bare_keys : (es : List Cell) → map cell_key (map (λ c. record { key = c.key; next = None; prev = None }) es) ≡ map cell_key es
-bare_keys [] = refl
-bare_keys (c ∷ es) = ap (λ l. c.key ∷ l) (bare_keys es)
-
--- the key of each cell where the bare cells are the same
-pub keys_same : (es fs : List Cell)
-    → map (λ c. record { key = c.key; next = None; prev = None }) es ≡ map {B = Cell} (λ c. record { key = c.key; next = None; prev = None }) fs
-    → map cell_key es ≡ map cell_key fs
-keys_same es fs e = sym (bare_keys es) ∙ ap (map cell_key) e ∙ bare_keys fs
-
--- What `link` and `unlink` leave: the cells written through a lent slice, and one compartment.
-module _ (r : Rim) (h : RimSound r) (i k q : ℕ) (quotient : q ≡ k / r.width) (old : Compartment)
-    (read : old ≡ get_or (vec_items r.table) (q % 64) old) (es ws : List Cell) (lent : es ≡ vec_items r.cells)
-    (chain : Chain) (o : Option ℕ) (items : map cell_key ws ≡ set (map cell_key es) i o) where
-  changed : ℕ → ℕ → Rim
-  changed later count = record { width = r.width; later = later; cells = with_items r.cells ws; table = with_item r.table (q % 64) (record { chain = chain; count = count }) }
-
-  place_is : q % 64 ≡ place_of r.width k
-  place_is = ap (λ v. v % 64) quotient
-
-  in_table : q % 64 < length (vec_items r.table)
-  in_table = let a = mod-lt q {m = 64} (omega arith) in let b = h.tabled in let c = r.table.ok.0 in omega arith
-
-  long : length ws ≡ r.cells.len
-  long = sym (length-map ws cell_key) ∙ ap length items ∙ length-set (map cell_key es) i o ∙ length-map es cell_key ∙ ap length lent ∙ sym r.cells.ok.0
-
-  filled : vec_items (with_items r.cells ws) ≡ ws
-  filled = with_items_is r.cells ws long
-
-  head_is : old.chain.first ≡ get_or (rim_firsts r) (place_of r.width k) None
-  head_is = ap (λ c. c.chain.first) read
-      ∙ sym (get_or-map (λ c. c.chain.first) (vec_items r.table) (q % 64) old None in_table)
-      ∙ ap (λ v. get_or (rim_firsts r) v None) place_is
-
-  count_is : old.count ≡ get_or (rim_counts r) (place_of r.width k) 0
-  count_is = ap (λ c. c.count) read
-      ∙ sym (get_or-map (λ c. c.count) (vec_items r.table) (q % 64) old 0 in_table)
-      ∙ ap (λ v. get_or (rim_counts r) v 0) place_is
-
-  module _ (count : ℕ) where
-    firsts_are : map (λ c. c.chain.first) (set (vec_items r.table) (q % 64) (record { chain = chain; count = count }))
-        ≡ set (rim_firsts r) (place_of r.width k) chain.first
-    firsts_are = map-set (λ c. c.chain.first) (vec_items r.table) (q % 64) (record { chain = chain; count = count })
-        ∙ ap (λ v. set (rim_firsts r) v chain.first) place_is
-
-    counts_are : map (λ c. c.count) (set (vec_items r.table) (q % 64) (record { chain = chain; count = count }))
-        ≡ set (rim_counts r) (place_of r.width k) count
-    counts_are = map-set (λ c. c.count) (vec_items r.table) (q % 64) (record { chain = chain; count = count })
-        ∙ ap (λ v. set (rim_counts r) v count) place_is
-
-  pub linked : o ≡ Some k → i < length (rim_keys r) → get_or (rim_keys r) i None ≡ None
-      → chain.first ≡ fronted (map cell_next es) i old.chain.first
-      → map cell_next ws ≡ set (map cell_next es) i old.chain.first
-      → map cell_prev ws ≡ fronted_prevs (map cell_prev es) i old.chain.first
-      → Becomes r (set (rim_keys r) i (Some k))
-      (record { width = r.width; later = (r.later + 1) % 2 ^ 64; cells = with_items r.cells ws; table = with_item r.table (q % 64) (record { chain = chain; count = (old.count + 1) % 2 ^ 64 }) })
-  linked some l n value after keeps =
-      let f = filled in
-      let hd = head_is in
-      let ct = count_is in
-      let fs = firsts_are ((old.count + 1) % 2 ^ 64) in
-      let cs = counts_are ((old.count + 1) % 2 ^ 64) in
-      link_becomes r h
-      (record { width = r.width; later = (r.later + 1) % 2 ^ 64; cells = with_items r.cells ws; table = with_item r.table (q % 64) (record { chain = chain; count = (old.count + 1) % 2 ^ 64 }) })
-      i k l n refl refl refl
-      (ap (map cell_key) f ∙ items ∙ ap (λ e. set (map cell_key e) i o) lent ∙ ap (set (rim_keys r) i) some)
-      (ap (map cell_next) f ∙ after ∙ ap (λ e. set (map cell_next e) i old.chain.first) lent ∙ ap (set (rim_nexts r) i) hd)
-      (ap (map cell_prev) f ∙ keeps ∙ ap (λ e. fronted_prevs (map cell_prev e) i old.chain.first) lent ∙ ap (fronted_prevs (rim_prevs r) i) hd)
-      (fs ∙ ap (set (rim_firsts r) (place_of r.width k)) (value ∙ ap (λ e. fronted (map cell_next e) i old.chain.first) lent ∙ ap (fronted (rim_nexts r) i) hd))
-      (cs ∙ ap (λ v. set (rim_counts r) (place_of r.width k) ((v + 1) % 2 ^ 64)) ct)
-
-  pub unlinked_too : o ≡ None → get_or (rim_keys r) i None ≡ Some k
-      → chain.first ≡ unlinked (map cell_next es) (map cell_prev es) i old.chain.first
-      → map cell_next ws ≡ unlinked_nexts (map cell_next es) (map cell_prev es) i
-      → map cell_prev ws ≡ unlinked_prevs (map cell_next es) (map cell_prev es) i
-      → Becomes r (set (rim_keys r) i None)
-      (record { width = r.width; later = (r.later + (2 ^ 64 - 1)) % 2 ^ 64; cells = with_items r.cells ws; table = with_item r.table (q % 64) (record { chain = chain; count = (old.count + (2 ^ 64 - 1)) % 2 ^ 64 }) })
-  unlinked_too none here value after keeps =
-      let f = filled in
-      let hd = head_is in
-      let ct = count_is in
-      let fs = firsts_are ((old.count + (2 ^ 64 - 1)) % 2 ^ 64) in
-      let cs = counts_are ((old.count + (2 ^ 64 - 1)) % 2 ^ 64) in
-      unlink_becomes r h
-      (record { width = r.width; later = (r.later + (2 ^ 64 - 1)) % 2 ^ 64; cells = with_items r.cells ws; table = with_item r.table (q % 64) (record { chain = chain; count = (old.count + (2 ^ 64 - 1)) % 2 ^ 64 }) })
-      i k here refl refl refl
-      (ap (map cell_key) f ∙ items ∙ ap (λ e. set (map cell_key e) i o) lent ∙ ap (set (rim_keys r) i) none)
-      (ap (map cell_next) f ∙ after ∙ ap (λ e. unlinked_nexts (map cell_next e) (map cell_prev e) i) lent)
-      (ap (map cell_prev) f ∙ keeps ∙ ap (λ e. unlinked_prevs (map cell_next e) (map cell_prev e) i) lent)
-      (fs ∙ ap (set (rim_firsts r) (place_of r.width k)) (value ∙ ap (λ e. unlinked (map cell_next e) (map cell_prev e) i old.chain.first) lent ∙ ap (unlinked (rim_nexts r) (rim_prevs r) i) hd))
-      (cs ∙ ap (λ v. set (rim_counts r) (place_of r.width k) ((v + (2 ^ 64 - 1)) % 2 ^ 64)) ct)
+          slotted = subst (λ v. Slotted (place_of w) v (fewer h.lists p i)) (sym rows) all;
+          counted = λ t lt. subst (λ v. get_or v t 0 ≡ length (fewer h.lists p i t)) (sym counts)
+              (counted_fewer (counts_of table) h.lists h.counted counts_long p in_table i (h.slotted.waits i k here) t lt);
+          later_is =
+              let e = h.later_is in let a = held_take (keys cells) i k (some_lt (keys cells) i k here) here in
+              let b = ap held key in omega arith;
+        }
 
 -- The nearest item along a chain: every item of the list, at its key, is no nearer.
 module _ (keys nexts : List (Option ℕ)) where
@@ -306,23 +190,8 @@ module _ (keys nexts : List (Option ℕ)) where
   scan_end zero best = refl
   scan_end (suc n) best = refl
 
-  -- a scan that is over, at its end or past the cells, and one that goes on
-  pub scan_zero : (n : ℕ) (at : Option ℕ) (best : Option Entry) → n ≡ 0 → scan keys nexts n at best ≡ best
-  scan_zero n at best e = ap (λ v. scan keys nexts v at best) e
-
   pub scan_none : (n : ℕ) (at : Option ℕ) (best : Option Entry) → at ≡ None → scan keys nexts n at best ≡ best
   scan_none n at best e = ap (λ v. scan keys nexts n v best) e ∙ scan_end n best
-
-  pub scan_more : (n m i : ℕ) (at : Option ℕ) (best : Option Entry) → n ≡ suc m → at ≡ Some i
-      → scan keys nexts n at best ≡ scan keys nexts m (get_or nexts i None) (nearer best i (get_or keys i None))
-  scan_more n m i at best e q = ap (λ v. scan keys nexts v at best) e ∙ ap (λ v. scan keys nexts (suc m) v best) q
-
-  pub scan_past : (n i : ℕ) (at : Option ℕ) (best : Option Entry) → 0 < n → at ≡ Some i
-      → get_or keys i None ≡ None → get_or nexts i None ≡ None → scan keys nexts n at best ≡ best
-  scan_past n i at best p q none_key none_next =
-      scan_more n (n - 1) i at best (omega arith) q
-      ∙ scan_none (n - 1) (get_or nexts i None) (nearer best i (get_or keys i None)) none_next
-      ∙ ap (nearer best i) none_key
 
   nearer_waits : (best : Option Entry) (i : ℕ) (o : Option ℕ) → get_or keys i None ≡ o → Waits best → Waits (nearer best i o)
   nearer_waits best i None e h = h
@@ -364,6 +233,203 @@ module _ (keys nexts : List (Option ℕ)) where
       (λ t. scan_chain n (get_or nexts x None) (nearer best x (get_or keys x None)) xs c.2 (omega arith) j k t e)
       m)
 
+-- The walk along a chain that ends: how many steps are left, at most n, and what each does.
+module _ (keys nexts : List (Option ℕ)) where
+  abbrev pub steps : ℕ → Option ℕ → ℕ
+  steps zero at = 0
+  steps (suc n) None = 0
+  steps (suc n) (Some i) = suc (steps n (get_or nexts i None))
+
+  pub record Walk (n : ℕ) (at : Option ℕ) : Type 0 where
+    pub list : List ℕ
+    pub chained : Chained nexts at list
+    pub short : length list ≤ n
+
+  steps_are : (n : ℕ) (at : Option ℕ) (xs : List ℕ) → Chained nexts at xs → length xs ≤ n → steps n at ≡ length xs
+  steps_are zero at [] c l = refl
+  steps_are zero at (x ∷ xs) c l = absurd (omega arith)
+  steps_are (suc n) at [] c l = ap (steps (suc n)) c
+  steps_are (suc n) at (x ∷ xs) c l = ap (steps (suc n)) c.0 ∙ ap suc (steps_are n (get_or nexts x None) xs c.2 (omega arith))
+
+  -- a step more than the list is long changes nothing
+  scan_enough : (n : ℕ) (at : Option ℕ) (best : Option Entry) (xs : List ℕ) → Chained nexts at xs → length xs ≤ n
+      → scan keys nexts (suc n) at best ≡ scan keys nexts n at best
+  scan_enough n at best [] c l = scan_none keys nexts (suc n) at best c ∙ sym (scan_none keys nexts n at best c)
+  scan_enough zero at best (x ∷ xs) c l = absurd (omega arith)
+  scan_enough (suc n) at best (x ∷ xs) c l =
+      ap (λ v. scan keys nexts (suc (suc n)) v best) c.0
+      ∙ scan_enough n (get_or nexts x None) (nearer best x (get_or keys x None)) xs c.2 (omega arith)
+      ∙ sym (ap (λ v. scan keys nexts (suc n) v best) c.0)
+
+  pub record Step (n i : ℕ) : Type 0 where
+    pub within : i < length nexts
+    pub rest : Walk n (get_or nexts i None)
+    pub smaller : steps n (get_or nexts i None) < steps n (Some i)
+    pub same : (best : Option Entry) → scan keys nexts n (get_or nexts i None) (nearer best i (get_or keys i None)) ≡ scan keys nexts n (Some i) best
+
+  step_along : (n i : ℕ) (xs : List ℕ) → Chained nexts (Some i) xs → length xs ≤ n → Step n i
+  step_along n i [] c l = absurd (none_some c refl)
+  step_along n i (x ∷ xs) c l =
+      let is : i ≡ x = same_some refl c.0 in
+      let after : Chained nexts (get_or nexts i None) xs = subst (λ v. Chained nexts (get_or nexts v None) xs) (sym is) c.2 in
+      let a = steps_are n (Some i) (x ∷ xs) c l in
+      let b = steps_are n (get_or nexts i None) xs after (omega arith) in
+      let m : n ≡ suc (n - 1) = omega arith in
+      record {
+        within = let z = c.1 in omega arith;
+        rest = record { list = xs; chained = after; short = omega arith };
+        smaller = omega arith;
+        same = λ best.
+            ap (λ v. scan keys nexts v (get_or nexts i None) (nearer best i (get_or keys i None))) m
+            ∙ scan_enough (n - 1) (get_or nexts i None) (nearer best i (get_or keys i None)) xs after (omega arith)
+            ∙ ap (λ v. scan keys nexts v (Some i) best) (sym m);
+      }
+
+  pub step_of : (n i : ℕ) → Walk n (Some i) → Step n i
+  step_of n i w = step_along n i w.list w.chained w.short
+
+-- what is known of each rim
+module _ (r : Rim) where
+  pub later_is : r.later ≡ held (rim_keys r)
+  later_is = ∥∥₁_elim r.sound (hlevel props) (λ h. h.later_is)
+
+  pub keys_long : length (rim_keys r) ≡ r.cells.len
+  keys_long = length-map r.cells.items cell_key ∙ sym r.cells.ok.0
+
+  pub later_fits : r.later + 1 < 2 ^ 64
+  later_fits =
+      let most : r.later ≤ length (rim_keys r) = ∥∥₁_elim r.sound (hlevel props) (later_most r.width r.later r.cells.items r.table) in
+      let e = keys_long in let z = r.cells.small in omega arith
+
+  pub later_some : (i k : ℕ) → get_or (rim_keys r) i None ≡ Some k → 0 < r.later
+  later_some i k here =
+      ∥∥₁_elim r.sound (hlevel props) (λ h. later_held r.width r.later r.cells.items r.table h i k here)
+
+  -- what `first_in` answers
+  pub lies_none : (p : ℕ) → get_or (rim_firsts r) p None ≡ None → Lies r.width (rim_keys r) p None
+  lies_none p e = ∥∥₁_elim r.sound (hlevel props) (λ h. none_waits r.width r.later r.cells.items r.table h p e)
+
+  pub lies_some : (p i k : ℕ) → get_or (rim_firsts r) p None ≡ Some i → get_or (rim_keys r) i None ≡ Some k → place_of r.width k ≡ p
+  lies_some p i k e here = ∥∥₁_elim r.sound (hlevel props)
+      (λ h. let w = first_waits r.width r.later r.cells.items r.table h p i e in
+      ap (place_of r.width) (same_some here w.1) ∙ w.2)
+
+  pub first_has_key : (p i : ℕ) → get_or (rim_firsts r) p None ≡ Some i → get_or (rim_keys r) i None ≡ None → ⊥
+  first_has_key p i e none = ∥∥₁_elim r.sound (hlevel props)
+      (λ h. let w = first_waits r.width r.later r.cells.items r.table h p i e in none_some none w.1)
+
+  -- the chain of a compartment, as the row has it
+  pub first_at : length r.table ≡ 64 → (p : ℕ) → p < 64 → (get_or r.table p vacant).chain.first ≡ get_or (rim_firsts r) p None
+  first_at long p l = sym (get_or-map first_of r.table p vacant None (omega arith))
+
+  pub walk_from : length r.table ≡ 64 → (p : ℕ) → p < 64
+      → ∥ Walk (rim_keys r) (rim_nexts r) (length (rim_keys r)) (get_or r.table p vacant).chain.first ∥₁
+  walk_from long p l = ∥∥₁_map r.sound (λ h. record {
+    list = h.lists p;
+    chained = subst (λ v. Chained (rim_nexts r) v (h.lists p)) (sym (first_at long p l)) (h.slotted.chained p);
+    short = slot_length (place_of r.width) (rows_of r.cells.items r.table) h.lists h.slotted p;
+  })
+
+  -- a step of a walk along a chain
+  module _ (i : ℕ) (walk : ∥ Walk (rim_keys r) (rim_nexts r) (length (rim_keys r)) (Some i) ∥₁) where
+    pub walk_within : i < length r.cells.items
+    walk_within =
+        let l : i < length (rim_nexts r) = ∥∥₁_elim walk (hlevel props) (λ w. (step_of (rim_keys r) (rim_nexts r) (length (rim_keys r)) i w).within) in
+        let e = length-map r.cells.items cell_next in omega arith
+
+    pub walk_rest : ∥ Walk (rim_keys r) (rim_nexts r) (length (rim_keys r)) (get_or (rim_nexts r) i None) ∥₁
+    walk_rest = ∥∥₁_map walk (λ w. (step_of (rim_keys r) (rim_nexts r) (length (rim_keys r)) i w).rest)
+
+    pub walk_smaller : steps (rim_keys r) (rim_nexts r) (length (rim_keys r)) (get_or (rim_nexts r) i None)
+        < steps (rim_keys r) (rim_nexts r) (length (rim_keys r)) (Some i)
+    walk_smaller = ∥∥₁_elim walk (hlevel props) (λ w. (step_of (rim_keys r) (rim_nexts r) (length (rim_keys r)) i w).smaller)
+
+    pub walk_same : (best : Option Entry)
+        → scan (rim_keys r) (rim_nexts r) (length (rim_keys r)) (get_or (rim_nexts r) i None) (nearer best i (get_or (rim_keys r) i None))
+        ≡ scan (rim_keys r) (rim_nexts r) (length (rim_keys r)) (Some i) best
+    walk_same best = ∥∥₁_elim walk (hlevel props) (λ w. (step_of (rim_keys r) (rim_nexts r) (length (rim_keys r)) i w).same best)
+
+  -- a cell, as the rows have it
+  pub key_at : (i : ℕ) (d : Cell) → i < length r.cells.items → (get_or r.cells.items i d).key ≡ get_or (rim_keys r) i None
+  key_at i d l = sym (get_or-map cell_key r.cells.items i d None l)
+
+  pub next_at : (i : ℕ) (d : Cell) → i < length r.cells.items → (get_or r.cells.items i d).next ≡ get_or (rim_nexts r) i None
+  next_at i d l = sym (get_or-map cell_next r.cells.items i d None l)
+
+  -- nothing waits where nothing is counted
+  pub idle : r.later ≡ 0 → rim_keys r ≡ replicate (length (rim_keys r)) None
+  idle z = none_held (rim_keys r) (sym later_is ∙ z)
+
+  -- The compartment of key k, as `link` and `unlink` read it.
+  module _ (long : length r.table ≡ 64) (k p : ℕ) (place : p ≡ place_of r.width k) where
+    in_table : p < 64
+    in_table = let z = place_lt r.width k in omega arith
+
+    first_is : (get_or r.table p vacant).chain.first ≡ get_or (rim_firsts r) (place_of r.width k) None
+    first_is = first_at long p in_table ∙ ap (λ v. get_or (rim_firsts r) v None) place
+
+    count_is : (get_or r.table p vacant).count ≡ get_or (rim_counts r) (place_of r.width k) 0
+    count_is = sym (get_or-map count_of r.table p vacant 0 (let z = in_table in omega arith)) ∙ ap (λ v. get_or (rim_counts r) v 0) place
+
+    pub count_fits : (get_or r.table p vacant).count + 1 < 2 ^ 64
+    count_fits =
+        let most : get_or (rim_counts r) (place_of r.width k) 0 ≤ length (rim_keys r) = ∥∥₁_elim r.sound (hlevel props)
+        (λ h. count_most r.width r.later r.cells.items r.table h (place_of r.width k) (place_lt r.width k)) in
+        let e = keys_long in let z = r.cells.small in let n = count_is in omega arith
+
+    pub count_some : (i : ℕ) → get_or (rim_keys r) i None ≡ Some k → 0 < (get_or r.table p vacant).count
+    count_some i here =
+        let most : 0 < get_or (rim_counts r) (place_of r.width k) 0 = ∥∥₁_elim r.sound (hlevel props)
+        (λ h. count_held r.width r.later r.cells.items r.table h i k here) in
+        let n = count_is in omega arith
+
+    -- the cells are changed through a lent slice
+    module _ (es ds : List Cell) (lent : es ≡ r.cells.items) (c : Compartment) (i : ℕ) where
+      filled : (o : Option ℕ) → keys ds ≡ set (keys es) i o → (with_items r.cells ds).items ≡ ds
+      filled o key = with_items_is r.cells ds
+          (sym (length-map ds cell_key) ∙ ap length key ∙ length-set (keys es) i o ∙ length-map es cell_key ∙ ap length lent ∙ sym r.cells.ok.0)
+
+      pub link_sound : i < r.cells.len → get_or (rim_keys r) i None ≡ None
+          → c.chain.first ≡ fronted (nexts es) i (get_or r.table p vacant).chain.first
+          → c.count ≡ (get_or r.table p vacant).count + 1
+          → nexts ds ≡ set (nexts es) i (get_or r.table p vacant).chain.first
+          → prevs ds ≡ fronted_prevs (prevs es) i (get_or r.table p vacant).chain.first
+          → keys ds ≡ set (keys es) i (Some k)
+          → ∥ RimSound r.width (r.later + 1) (with_items r.cells ds).items (set r.table p c) ∥₁
+      link_sound l none first count next prev key = ∥∥₁_map r.sound
+          (λ h. let e = first_is in let n = count_is in let f = filled (Some k) key in
+          subst (λ v. RimSound r.width (r.later + 1) v (set r.table p c)) (sym f)
+          (subst (λ v. RimSound r.width (r.later + 1) ds (set r.table v c)) (sym place)
+          (linked r.width r.later r.cells.items r.table h long ds c i k (let z = keys_long in omega arith) none
+          (first ∙ ap (λ v. fronted (nexts es) i v) e ∙ ap (λ v. fronted (nexts v) i (get_or (rim_firsts r) (place_of r.width k) None)) lent)
+          (count ∙ ap (λ v. v + 1) n)
+          (next ∙ ap (λ v. set (nexts es) i v) e ∙ ap (λ v. set (nexts v) i (get_or (rim_firsts r) (place_of r.width k) None)) lent)
+          (prev ∙ ap (λ v. fronted_prevs (prevs es) i v) e ∙ ap (λ v. fronted_prevs (prevs v) i (get_or (rim_firsts r) (place_of r.width k) None)) lent)
+          (key ∙ ap (λ v. set (keys v) i (Some k)) lent))))
+
+      pub unlink_sound : get_or (rim_keys r) i None ≡ Some k
+          → c.chain.first ≡ unlinked (nexts es) (prevs es) i (get_or r.table p vacant).chain.first
+          → c.count ≡ (get_or r.table p vacant).count - 1
+          → nexts ds ≡ unlinked_nexts (nexts es) (prevs es) i
+          → prevs ds ≡ unlinked_prevs (nexts es) (prevs es) i
+          → keys ds ≡ set (keys es) i None
+          → ∥ RimSound r.width (r.later - 1) (with_items r.cells ds).items (set r.table p c) ∥₁
+      unlink_sound here first count next prev key = ∥∥₁_map r.sound
+          (λ h. let e = first_is in let n = count_is in let f = filled None key in
+          subst (λ v. RimSound r.width (r.later - 1) v (set r.table p c)) (sym f)
+          (subst (λ v. RimSound r.width (r.later - 1) ds (set r.table v c)) (sym place)
+          (unlinked_too r.width r.later r.cells.items r.table h long ds c i k here
+          (first ∙ ap (λ v. unlinked (nexts es) (prevs es) i v) e ∙ ap (λ v. unlinked (nexts v) (prevs v) i (get_or (rim_firsts r) (place_of r.width k) None)) lent)
+          (count ∙ ap (λ v. v - 1) n)
+          (next ∙ ap (λ v. unlinked_nexts (nexts v) (prevs v) i) lent)
+          (prev ∙ ap (λ v. unlinked_prevs (nexts v) (prevs v) i) lent)
+          (key ∙ ap (λ v. set (keys v) i None) lent))))
+
+-- one proof at most that an entry is a least one
+least_prop : (ks : List (Option ℕ)) (o : Option Entry) → IsProp (Least (record { waits = ks; floor = 0; band = 0 }) o)
+least_prop ks None = hlevel props
+least_prop ks (Some e) = hlevel props
+
 -- a list that is not empty has a first item
 some_item : (xs : List ℕ) → 0 < length xs → (x : ℕ) × Mem x xs
 some_item [] l = absurd (omega arith)
@@ -374,7 +440,7 @@ no_item [] i l m = m
 no_item (x ∷ xs) i l m = absurd (omega arith)
 
 -- While each key lies in one of the 64 compartments after number a, the rim names a least item.
-module _ (r : Rim) (h : RimSound r) (a : ℕ)
+module _ (r : Rim) (h : RimSound r.width r.later r.cells.items r.table) (a : ℕ)
     (window : (i k : ℕ) → get_or (rim_keys r) i None ≡ Some k → (a < k / r.width) × (k / r.width ≤ a + 64)) where
   -- a compartment that counts nothing has no key
   bare_place : (i k : ℕ) → get_or (rim_keys r) i None ≡ Some k → get_or (rim_counts r) (place_of r.width k) 0 ≡ 0 → ⊥
@@ -397,7 +463,7 @@ module _ (r : Rim) (h : RimSound r) (a : ℕ)
     in_place : (j l : ℕ) → Mem j (h.lists p) → get_or (rim_keys r) j None ≡ Some l → NoFartherThan l
     in_place j l m e =
         scan_chain (rim_keys r) (rim_nexts r) (length (rim_keys r)) (get_or (rim_firsts r) p None) None (h.lists p)
-        (h.slotted.chained p) (slot_length (place_of r.width) (rim_rows r) h.lists h.slotted p) j l m e
+        (h.slotted.chained p) (slot_length (place_of r.width) (rows_of r.cells.items r.table) h.lists h.slotted p) j l m e
 
     farther : (o : Option Entry) (k l : ℕ) → k ≤ l → NoFarther (rim_keys r) (rim_nexts r) o k → NoFarther (rim_keys r) (rim_nexts r) o l
     farther None k l le f = f
@@ -439,5 +505,21 @@ module _ (r : Rim) (h : RimSound r) (a : ℕ)
       let kx = h.slotted.key p x.0 x.1 in
       least_there p s x.0 kx.0 x.1 kx.1 kx.2 (least_at r (Some p)) refl
 
-  pub rim_least_is : Least (record { waits = rim_keys r; floor = 0; band = 0 }) (rim_least a r)
-  rim_least_is = least_is (first_held (rim_counts r) 64 a) (sought (rim_counts r) 64 a)
+  sound_least : Least (record { waits = rim_keys r; floor = 0; band = 0 }) (rim_least a r)
+  sound_least = least_is (first_held (rim_counts r) 64 a) (sought (rim_counts r) 64 a)
+
+pub rim_least_is : (r : Rim) (a : ℕ)
+    → ((i k : ℕ) → get_or (rim_keys r) i None ≡ Some k → (a < k / r.width) × (k / r.width ≤ a + 64))
+    → Least (record { waits = rim_keys r; floor = 0; band = 0 }) (rim_least a r)
+rim_least_is r a window = ∥∥₁_elim r.sound (least_prop (rim_keys r) (rim_least a r)) (λ h. sound_least r h a window)
+
+-- what the check is to apply at each call of a rim
+pub ruleset blanks = (blank_sound, blank_keys, keys_long, idle)
+
+pub ruleset lying = (first_at, first_has_key, lies_none, lies_some)
+
+pub ruleset linking = (count_fits, link_sound)
+
+pub ruleset unlinking = (later_some, count_some, unlink_sound)
+
+pub ruleset walking = (first_at, key_at, next_at, walk_from, walk_within, walk_rest, walk_smaller, walk_same)

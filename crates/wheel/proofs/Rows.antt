@@ -1,7 +1,6 @@
 -- Lemmas on rows of keys: what `joined` reads, how it changes, and how many it holds.
-use Rattle.std.proofs.Common.{◌≡◌, ℕ, zero, suc, ◌+◌, ◌<◌, List, [], ◌∷◌, length, get_or, set, Some, None, Option, sym, refl, ap, subst, arith}
+use Rattle.std.proofs.Common.{◌≡◌, ℕ, zero, suc, ◌+◌, ◌<◌, List, [], ◌∷◌, length, get_or, set, Some, None, Option, refl, ap, arith}
 use Rattle.queue.specs.Meaning.{held}
-use Rattle.queue.proofs.Meanings.{none_held, none_in_replicate}
 use Rattle.chains.proofs.Threads.{none_some}
 use Rattle.wheel.specs.Banded.{none_read}
 use Rattle.wheel.specs.Joined.{either_key, joined}
@@ -18,10 +17,6 @@ pub held_none : (ks : List (Option ℕ)) → ((i : ℕ) → get_or ks i None ≡
 held_none [] h = refl
 held_none (None ∷ ks) h = held_none ks (λ i. h (suc i))
 held_none (Some k ∷ ks) h = absurd (let e = h 0 in let z : ◌≡◌ {A = ℕ} 0 1 = cc in omega arith)
-
--- a row that holds nothing has nothing at each place
-pub none_anywhere : (ks : List (Option ℕ)) → held ks ≡ 0 → (i : ℕ) → get_or ks i None ≡ None
-none_anywhere ks z i = subst (λ v. get_or v i None ≡ None) (sym (none_held ks z)) (none_in_replicate (length ks) i)
 
 -- where no item waits in both, the joined row holds what the two hold together
 pub held_joined : (base : ℕ) (ks bs : List (Option ℕ))

@@ -1,6 +1,10 @@
 -- Lemmas on the search for the first later compartment that holds something.
-use Rattle.std.proofs.Common.{◌≡◌, ℕ, zero, suc, ◌+◌, ◌-◌, ◌%◌, ◌<◌, ◌≤◌, ltb, List, get_or, Some, None, Option, sym, refl, ap, ◌∙◌, subst, ⊎_elim, arith}
+use Rattle.std.proofs.Common.{◌≡◌, ℕ, zero, suc, ◌+◌, ◌%◌, ◌<◌, ◌≤◌, ltb, List, map, length, mod-lt, get_or, Some, None, Option, sym, refl, ap, ◌∙◌, subst, ⊎_elim, arith}
+use Rattle.std.proofs.lemmas.List.{get_or-map}
 use Rattle.std.proofs.lemmas.Bool.{cases_eq, cond_both, cond-true, cond-false, ltb-true, ltb-false, lt-ltb, le-ltb}
+use Rattle.std.specs.List.{find, range_with_len}
+use Rattle.wheel.specs.declared.rim.Compartment.{Compartment}
+use Rattle.wheel.specs.Compartments.{vacant, counts_of}
 use Rattle.wheel.specs.Later.{first_held}
 
 -- the compartments from number q to before number s hold nothing
@@ -67,27 +71,29 @@ sought counts (suc n) q = cond_both (ltb 0 (get_or counts (suc q % 64) 0)) (Some
     sought_back counts n q (first_held counts n (suc q)) (omega arith) (sought counts n (suc q)))
 
 -- one turn of the search, at its number of steps
-pub step_here : (counts : List ℕ) (n s : ℕ) → s < 64 → 0 < get_or counts ((n + s + 1) % 64) 0
-    → first_held counts (64 - s) (n + s) ≡ Some ((n + s + 1) % 64)
-step_here counts n s l h =
-    let e : 64 - s ≡ suc (63 - s) = omega arith in
-    let f : n + s + 1 ≡ suc (n + s) = omega arith in
-    ap (λ v. first_held counts v (n + s)) e
-    ∙ first_held_here counts (63 - s) (n + s) (subst (λ v. 0 < get_or counts (v % 64) 0) f h)
-    ∙ ap (λ v. Some (v % 64)) (sym f)
+-- the chain of `first_held`, from step a on
+pub found : (table : List Compartment) → length table ≡ 64 → (n a q : ℕ)
+    → find (λ p. ltb 0 (get_or table p vacant).count) (map (λ s. (q + s + 1) % 64) (range_with_len a n)) ≡ first_held (counts_of table) n (q + a)
+found table long zero a q = sym (first_held_none (counts_of table) (q + a))
+found table long (suc n) a q =
+    let p = (q + a + 1) % 64 in
+    let s = suc (q + a) % 64 in
+    let place : p ≡ s = ap (λ v. v % 64) (omega arith) in
+    let l : p < length table = (let z = mod-lt (q + a + 1) {m = 64} (omega arith) in omega arith) in
+    let read : (get_or table p vacant).count ≡ get_or (counts_of table) s 0 =
+    sym (get_or-map (λ c. c.count) table p vacant 0 l) ∙ ap (λ v. get_or (counts_of table) v 0) place in
+    let later = found table long n (a + 1) q in
+    let next : q + (a + 1) ≡ suc (q + a) = omega arith in
+    cond_both (ltb 0 (get_or table p vacant).count) (Some p)
+    (find (λ p. ltb 0 (get_or table p vacant).count) (map (λ s. (q + s + 1) % 64) (range_with_len (a + 1) n)))
+    (λ o. o ≡ first_held (counts_of table) (suc n) (q + a))
+    (λ t. let z = ltb-true 0 (get_or table p vacant).count t in
+    ap (λ v. Some v) place ∙ sym (first_held_here (counts_of table) n (q + a) (omega arith)))
+    (λ f. let z = ltb-false 0 (get_or table p vacant).count f in
+    later ∙ ap (first_held (counts_of table) n) next ∙ sym (first_held_later (counts_of table) n (q + a) (omega arith)))
 
-pub step_later : (counts : List ℕ) (n s : ℕ) → s < 64 → get_or counts ((n + s + 1) % 64) 0 ≡ 0
-    → first_held counts (64 - s) (n + s) ≡ first_held counts (64 - (s + 1)) (n + (s + 1))
-step_later counts n s l h =
-    let e : 64 - s ≡ suc (63 - s) = omega arith in
-    let f : n + s + 1 ≡ suc (n + s) = omega arith in
-    let g : 63 - s ≡ 64 - (s + 1) = omega arith in
-    let i : suc (n + s) ≡ n + (s + 1) = omega arith in
-    ap (λ v. first_held counts v (n + s)) e
-    ∙ first_held_later counts (63 - s) (n + s) (subst (λ v. get_or counts (v % 64) 0 ≡ 0) f h)
-    ∙ ap (λ v. first_held counts v (suc (n + s))) g ∙ ap (λ v. first_held counts (64 - (s + 1)) v) i
-
-pub step_over : (counts : List ℕ) (n s : ℕ) → 64 ≤ s → first_held counts (64 - s) (n + s) ≡ None
-step_over counts n s h =
-    let e : 64 - s ≡ 0 = omega arith in
-    ap (λ v. first_held counts v (n + s)) e ∙ first_held_none counts (n + s)
+pub held_place : (counts : List ℕ) (n q p : ℕ) → Some p ≡ first_held counts n q → p < 64
+held_place counts n q p e =
+    let s : First counts q n p = subst (Sought counts q n) (sym e) (sought counts n q) in
+    let z = mod-lt s.number {m = 64} (omega arith) in
+    let y = s.place in omega arith

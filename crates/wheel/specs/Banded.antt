@@ -11,8 +11,7 @@ use Rattle.chains.proofs.Slots.{some_lt}
 use Rattle.queue.specs.Meaning.{Meaning, key_of, Banded}
 use Rattle.wheel.specs.declared.rim.Rim.{Rim}
 use Rattle.wheel.specs.Joined.{either_key, joined, wheel_meaning, Agree}
-use Rattle.wheel.specs.Rims.{rim_keys}
-use Rattle.wheel.specs.Wheels.{base as first_key, whole, WheelSound}
+use Rattle.wheel.specs.Wheels.{whole, WheelSound}
 
 pub length_joined : (base : ℕ) (ks bs : List (Option ℕ)) → length (joined base ks bs) ≡ length ks
 length_joined base [] bs = refl
@@ -37,7 +36,7 @@ pub either_way : (o : Option ℕ) → (o ≡ None) ⊎ ((k : ℕ) × (o ≡ Some
 either_way None = inl refl
 either_way (Some k) = inr (k, refl)
 
-module _ (from base w : ℕ) (ks : List (Option ℕ)) (b : Meaning) (agree : Agree from base w ks b) where
+module _ {from base w : ℕ} {ks : List (Option ℕ)} {b : Meaning} (agree : Agree from base w ks b) where
   -- what the wheel answers of an item
   pub key_of_wheel : (i : ℕ) → key_of (wheel_meaning base w ks b) i ≡ either_key base (slice_index_or ks i None) (key_of b i)
   key_of_wheel i = ⊎_elim (λ l. get_or_joined base ks b.waits i l)
@@ -93,4 +92,4 @@ module _ (from base w : ℕ) (ks : List (Option ℕ)) (b : Meaning) (agree : Agr
 
 pub whole_banded : (a : ℕ) (r : Rim) (b : Meaning) → WheelSound a r b → Banded b → Banded (whole a r b)
 whole_banded a r b sound banded =
-    wheel_banded (first_key a r + r.width) (first_key a r) r.width (rim_keys r) b sound.1 refl banded
+    wheel_banded sound refl banded

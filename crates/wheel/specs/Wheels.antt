@@ -6,17 +6,19 @@
 --   Figures     a width and a band below that a wheel may have
 --   Fresh       what a wheel just made means
 --   Dealt       when an item may go below; Sent is what happens then
---   Dealing     while a compartment's items are dealt below; Deals is what the next of them does
+--   Dealing     while a compartment's items are dealt below
 --   Due         when a later compartment may become current; Turned is what happens then
 --   Placed      what happens to an item that is offered an allowed key
-use Rattle.std.specs.Prelude.{◌≡◌, ℕ, ◌+◌, ◌-◌, ◌*◌, ◌<◌, ◌≤◌, min, Bool, true, false, length, replicate, Some, None, Ok, Err, Option, Result, slice_index_or, slice_set}
+--   means, IsSound, Sends, Turns, Places  the same of a wheel, given what its queue below means
+use Rattle.std.specs.Prelude.{◌≡◌, ℕ, ◌+◌, ◌-◌, ◌*◌, ◌<◌, ◌≤◌, min, length, replicate, Some, None, Ok, Err, Option, Result, slice_index_or}
 use Rattle.figures.specs.Limits.{width_limit, cell_limit, value_limit}
 use Rattle.figures.specs.declared.OutOfRange.{OutOfRange}
 use Rattle.queue.specs.declared.Entry.{Entry}
-use Rattle.queue.specs.Meaning.{Meaning, capacity, key_of, held, put, Allowed}
+use Rattle.queue.specs.Meaning.{Meaning, capacity, key_of, put, Allowed}
+use Rattle.wheel.specs.declared.Wheel.{Wheel}
 use Rattle.wheel.specs.declared.rim.Rim.{Rim}
 use Rattle.wheel.specs.Joined.{wheel_meaning, Agree}
-use Rattle.wheel.specs.Rims.{rim_keys, rim_least, RimSound, Becomes}
+use Rattle.wheel.specs.Rims.{rim_keys, rim_least}
 
 abbrev pub base : ℕ → Rim → ℕ
 base a r = a * r.width
@@ -25,7 +27,7 @@ abbrev pub whole : ℕ → Rim → Meaning → Meaning
 whole a r b = wheel_meaning (base a r) r.width (rim_keys r) b
 
 abbrev pub WheelSound : ℕ → Rim → Meaning → Type 0
-WheelSound a r b = RimSound r × Agree (base a r + r.width) (base a r) r.width (rim_keys r) b
+WheelSound a r b = Agree (base a r + r.width) (base a r) r.width (rim_keys r) b
 
 -- the entry that a wheel names: the one that the queue below names, else the rim's
 abbrev pub wheel_named : ℕ → Rim → Option Entry → Option Entry
@@ -46,10 +48,6 @@ pub record Fresh (w : ℕ) (b m : Meaning) : Type 0 where
   pub good : Figures w b.band → m ≡ record { waits = replicate (min (capacity b) cell_limit) None; floor = 0; band = w * 64 }
   pub bad : (Figures w b.band → ⊥) → m ≡ record { waits = replicate 0 None; floor = 0; band = 0 }
 
--- some item waits at a key below k
-abbrev pub Lower : Meaning → ℕ → Type 0
-Lower m k = (j : ℕ) × (l : ℕ) × (key_of m j ≡ Some l) × (l < k)
-
 -- item i waits at no key as low as k
 abbrev pub Higher : Meaning → ℕ → ℕ → Type 0
 Higher m i k = (old : ℕ) → key_of m i ≡ Some old → k < old
@@ -66,17 +64,10 @@ pub record Dealt (a : ℕ) (r : Rim) (b : Meaning) (i k : ℕ) : Type 0 where
 
 -- the current compartment is being dealt below: its items wait in the rim or below, and the floor below is 0
 pub record Dealing (a : ℕ) (r : Rim) (b : Meaning) : Type 0 where
-  pub rim : RimSound r
   pub agree : Agree (base a r) (base a r) r.width (rim_keys r) b
   -- the 64 compartments from the current one on
   pub last : (i k : ℕ) → slice_index_or (rim_keys r) i None ≡ Some k → k < base a r + r.width * 64
   pub floor : b.floor ≡ 0
-
--- one item more is below, or none was left
-abbrev pub Deals : ℕ → Rim → Meaning → Bool → Rim → Meaning → Type 0
-Deals a r b true s c = Dealing a s c × (s.width ≡ r.width) × (held (rim_keys s) + 1 ≡ held (rim_keys r))
-    × (whole a s c ≡ whole a r b)
-Deals a r b false s c = WheelSound a s c × (s.width ≡ r.width) × (whole a s c ≡ whole a r b)
 
 -- compartment number q may become current: nothing waits below, and it has the lowest of the later keys
 pub record Due (a : ℕ) (r : Rim) (b : Meaning) (q : ℕ) : Type 0 where
@@ -86,9 +77,8 @@ pub record Due (a : ℕ) (r : Rim) (b : Meaning) (q : ℕ) : Type 0 where
   pub small : q * r.width ≤ value_limit
   pub low : (i k : ℕ) → slice_index_or (rim_keys r) i None ≡ Some k → q * r.width ≤ k
 
-abbrev pub Sent : ℕ → Rim → Meaning → ℕ → ℕ → Rim → Meaning → Type 0
-Sent a r b i k s c =
-    RimSound r → Dealt a r b i k → Becomes r (slice_set (rim_keys r) i None) s × (c ≡ put b i (k - base a r))
+abbrev pub Sent : ℕ → Rim → Meaning → ℕ → ℕ → Meaning → Type 0
+Sent a r b i k c = Dealt a r b i k → c ≡ put b i (k - base a r)
 
 unfoldable pub Turned : ℕ → Rim → Meaning → ℕ → ℕ → Rim → Meaning → Type 0
 Turned a r b q d s c =
@@ -99,3 +89,19 @@ abbrev pub Placed : ℕ → Rim → Meaning → ℕ → ℕ → ℕ → Rim → 
 Placed a r b i k d s c =
     WheelSound a r b → Allowed (whole a r b) i k → Higher (whole a r b) i k
     → WheelSound d s c × (whole d s c ≡ put (whole a r b) i k)
+
+module _ {Q : Type 0} (meaning : Q → Meaning) where
+  abbrev pub means : Wheel Q → Meaning
+  means w = whole w.current w.rim (meaning w.below)
+
+  abbrev pub IsSound : Wheel Q → Type 0
+  IsSound w = WheelSound w.current w.rim (meaning w.below)
+
+  abbrev pub Sends : Wheel Q → ℕ → ℕ → Wheel Q → Type 0
+  Sends v i k w = Sent v.current v.rim (meaning v.below) i k (meaning w.below)
+
+  abbrev pub Turns : Wheel Q → ℕ → Wheel Q → Type 0
+  Turns v q w = Turned v.current v.rim (meaning v.below) q w.current w.rim (meaning w.below)
+
+  abbrev pub Places : Wheel Q → ℕ → ℕ → Wheel Q → Type 0
+  Places v i k w = Placed v.current v.rim (meaning v.below) i k w.current w.rim (meaning w.below)

@@ -2,102 +2,18 @@
 //
 // Key k lies in compartment (k / width) mod 64, which chains its items through their cells and counts them. A rim of
 // width 0 has no items.
-ghost use Rattle.std.specs.Prelude.{◌≡◌, ℕ, ◌+◌, ◌/◌, ◌%◌, ◌<◌, ◌≤◌, map, length, replicate, IfOk, Some, None, vec_len, slice_index_or, slice_set};
-ghost use Rattle.std.specs.Borrow.{sem, follows};
-ghost use Rattle.std.specs.Vec.{with_item};
+ghost use Rattle.std.specs.Prelude.{◌≡◌, ℕ, ◌+◌, ◌-◌, ◌/◌, ◌%◌, ◌^◌, ◌<◌, length, replicate, IfOk, Some, None, slice_index_or, slice_set};
+ghost use Rattle.chains.specs.Cells.{keys, nexts, prevs};
 ghost use Rattle.chains.specs.Links.{fronted, fronted_prevs, unlinked, unlinked_nexts, unlinked_prevs};
-ghost use Rattle.wheel.specs.contracts.rim.Rim.{the_row as rim_row};
-ghost use Rattle.wheel.specs.contracts.rim.Compartment.{the_row as compartment_row};
 ghost use Rattle.wheel.specs.Later.{first_held, nearer as the_nearer};
-ghost use Rattle.wheel.specs.Rims.{blank, vacant, cell_key, cell_next, cell_prev, rim_keys, rim_counts, rim_least, least_at, RimSound, Becomes, Lies};
+ghost use Rattle.wheel.specs.Compartments.{vacant, place_of, RimSound};
 
-use chains::{Chain, DoublyLinked, Linked};
+use chains::{Cell, Chain, Linked};
 use queue::Entry;
 use std::alloc::{AllocError, Global};
 
 // How many compartments a wheel has.
 const COMPARTMENTS: usize = 64;
-
-// What the rim knows of one item: its key while it waits in a compartment.
-#[derive(Clone, Copy)]
-pub struct Cell {
-    key: Option<u32>,
-    next: Option<usize>,
-    prev: Option<usize>,
-}
-
-impl Cell {
-    const fn new() -> Cell
-        ensures { result ≡ blank }
-    {
-        Cell {
-            key: None,
-            next: None,
-            prev: None,
-        }
-    }
-}
-
-impl Linked for Cell {
-    ghost link = { λ c. c.next };
-
-    ghost back = { λ c. c.prev };
-
-    ghost bare = { λ c. record { key = c.key; next = None; prev = None } };
-
-    fn next(&self) -> Option<usize> {
-        self.next
-    }
-
-    fn set_next(&mut self, next: Option<usize>) {
-        self.next = next;
-    }
-}
-
-impl DoublyLinked for Cell {
-    fn prev(&self) -> Option<usize> {
-        self.prev
-    }
-
-    fn set_prev(&mut self, prev: Option<usize>) {
-        self.prev = prev;
-    }
-}
-
-// Puts an item at a key, in front of a chain.
-fn enter(cells: &mut [Cell], chain: Chain, item: usize, key: u32) -> Chain
-    requires { item < length cells.old }
-    ensures value { result.first ≡ fronted (map cell_next cells.old) item chain.first }
-    ensures after { map cell_next cells.new ≡ slice_set (map cell_next cells.old) item chain.first }
-    ensures keeps { map cell_prev cells.new ≡ fronted_prevs (map cell_prev cells.old) item chain.first }
-    ensures items { map cell_key cells.new ≡ slice_set (map cell_key cells.old) item (Some key) }
-{
-    let chain = chain.inserted(cells, item);
-    cells[item].key = Some(key);
-    chain
-}
-
-// Takes an item out of its chain, so that it waits no more.
-fn leave(cells: &mut [Cell], chain: Chain, item: usize) -> Chain
-    requires { item < length cells.old }
-    ensures value { result.first ≡ unlinked (map cell_next cells.old) (map cell_prev cells.old) item chain.first }
-    ensures after { map cell_next cells.new ≡ unlinked_nexts (map cell_next cells.old) (map cell_prev cells.old) item }
-    ensures keeps { map cell_prev cells.new ≡ unlinked_prevs (map cell_next cells.old) (map cell_prev cells.old) item }
-    ensures items { map cell_key cells.new ≡ slice_set (map cell_key cells.old) item None }
-{
-    let chain = chain.removed(cells, item);
-    cells[item].key = None;
-    chain
-}
-
-// No item waits any more.
-fn blank_all(cells: &mut [Cell])
-    ensures { cells.new ≡ replicate (length cells.old) blank }
-{
-    for cell in cells.iter_mut() {
-        *cell = Cell::new();
-    }
-}
 
 // One compartment: the chain of its items, and how many there are.
 #[derive(Clone, Copy)]
@@ -115,14 +31,31 @@ impl Compartment {
             count: 0,
         }
     }
-}
 
-// No compartment holds anything any more.
-fn vacate_all(table: &mut [Compartment])
-    ensures { table.new ≡ replicate (length table.old) vacant }
-{
-    for compartment in table.iter_mut() {
-        *compartment = Compartment::new();
+    // Puts an item at a key, in front.
+    fn link(&mut self, cells: &mut [Cell], item: usize, key: u32)
+        requires { self.old.count + 1 < 2 ^ 64 }
+        ensures value { self.new.chain.first ≡ fronted (nexts cells.old) item self.old.chain.first }
+        ensures len { self.new.count ≡ self.old.count + 1 }
+        ensures after { nexts cells.new ≡ slice_set (nexts cells.old) item self.old.chain.first }
+        ensures keeps { prevs cells.new ≡ fronted_prevs (prevs cells.old) item self.old.chain.first }
+        ensures items { keys cells.new ≡ slice_set (keys cells.old) item (Some key) }
+    {
+        self.chain = self.chain.entered(cells, item, key);
+        self.count += 1;
+    }
+
+    // Takes an item out, so that it waits no more.
+    fn unlink(&mut self, cells: &mut [Cell], item: usize)
+        requires { 0 < self.old.count }
+        ensures value { self.new.chain.first ≡ unlinked (nexts cells.old) (prevs cells.old) item self.old.chain.first }
+        ensures len { self.new.count ≡ self.old.count - 1 }
+        ensures after { nexts cells.new ≡ unlinked_nexts (nexts cells.old) (prevs cells.old) item }
+        ensures keeps { prevs cells.new ≡ unlinked_prevs (nexts cells.old) (prevs cells.old) item }
+        ensures items { keys cells.new ≡ slice_set (keys cells.old) item None }
+    {
+        self.chain = self.chain.left(cells, item);
+        self.count -= 1;
     }
 }
 
@@ -134,16 +67,22 @@ pub struct Rim {
     // How many items wait in the compartments.
     later: usize,
     cells: Vec<Cell>,
-    table: Vec<Compartment>,
+    table: [Compartment; COMPARTMENTS],
+    // Each chain holds exactly the items whose keys fall into its compartment, and the counts are right.
+    ghost sound: { ∥ RimSound width later cells.items table ∥₁ },
 }
 
 impl Rim {
+    ghost use Rattle.wheel.specs.Rims.{rim_keys, rim_counts, rim_least, least_at, Lies, Becomes};
+
     // A rim of this width with cells for this many items, none of which waits.
+    #[tactic(auto, using(crate::proofs::Rims::blanks))]
     pub(super) fn new(heap: Global, width: u32, capacity: usize) -> Result<Rim, AllocError>
-        ensures { IfOk result (λ v. (v.width ≡ width) × (rim_keys v ≡ replicate capacity None) × RimSound v) }
+        ensures { IfOk result (λ v. (v.width ≡ width) × (rim_keys v ≡ replicate capacity None)) }
     {
         let cells = vec![in heap; Cell::new(); capacity]?;
-        let table = vec![in heap; Compartment::new(); COMPARTMENTS]?;
+        let vacant = Compartment::new();
+        let table = [vacant; COMPARTMENTS];
         Ok(Rim {
             width,
             later: 0,
@@ -176,133 +115,103 @@ impl Rim {
     pub(super) fn quotient(&self, key: u32) -> u32
         ensures { result ≡ key / self.now.width }
     {
-        if self.width == 0 {
-            return 0;
-        }
-        key / self.width
+        key.checked_div(self.width).unwrap_or(0)
+    }
+
+    // The place of a key's compartment in the table.
+    fn place(&self, key: u32) -> usize
+        ensures { result ≡ place_of self.now.width key }
+    {
+        self.quotient(key) as usize % COMPARTMENTS
     }
 
     // The item's key if it waits in a compartment.
     pub(super) fn key(&self, item: usize) -> Option<u32>
         ensures { result ≡ slice_index_or (rim_keys self.now) item None }
     {
-        if item >= self.cells.len() {
-            return None;
-        }
-        self.cells[item].key
+        self.cells.get(item)?.key()
     }
 
-    // The compartment at a place of the table, to be changed.
-    fn compartment(&mut self, place: usize) -> &mut Compartment
-        requires { place < vec_len self.old.table }
-        ensures* after { sem 𝓛 (follows rim_row compartment_row self.entry.ghost_name result.ghost_name (λ w. record { width = self.old.width; later = self.old.later; cells = self.old.cells; table = with_item self.old.table place w })) }
-        ensures value { result.now ≡ slice_index_or self.old.table.items place result.now }
-    {
-        &mut self.table[place]
-    }
+    // `link` and `unlink` stand apart: they share no more than the compartment's place.
 
     // Takes an item out of its compartment, if it waits in one. Constant time.
+    #[tactic(auto, using(crate::proofs::Rims::unlinking))]
     pub(super) fn unlink(&mut self, item: usize)
-        ensures { RimSound self.old → item < length (rim_keys self.old) → Becomes self.old (slice_set (rim_keys self.old) item None) self.new }
+        ensures { Becomes self.old (slice_set (rim_keys self.old) item None) self.new }
     {
-        let Some(key) = self.key(item) else {
-            return;
-        };
-        let place = self.quotient(key) as usize % COMPARTMENTS;
-        if place >= self.table.len() {
-            return;
+        if let Some(key) = self.key(item) {
+            let place = self.place(key);
+            self.table[place].unlink(self.cells.as_mut_slice(), item);
+            self.later -= 1;
         }
-        let old = self.table[place];
-        let chain = leave(self.cells.as_mut_slice(), old.chain, item);
-        self.later = self.later.wrapping_sub(1);
-        *self.compartment(place) = Compartment {
-            chain,
-            count: old.count.wrapping_sub(1),
-        };
     }
 
     // Puts an item that does not wait into the compartment of a key. Constant time.
+    #[tactic(auto, using(crate::proofs::Rims::linking))]
     pub(super) fn link(&mut self, item: usize, key: u32)
-        ensures { RimSound self.old → item < length (rim_keys self.old) → slice_index_or (rim_keys self.old) item None ≡ None → Becomes self.old (slice_set (rim_keys self.old) item (Some key)) self.new }
+        requires { slice_index_or (rim_keys self.old) item None ≡ None }
+        ensures { Becomes self.old (slice_set (rim_keys self.old) item (Some key)) self.new }
     {
-        let place = self.quotient(key) as usize % COMPARTMENTS;
-        if place >= self.table.len() || item >= self.cells.len() {
-            return;
+        if item < self.cells.len() {
+            let place = self.place(key);
+            self.table[place].link(self.cells.as_mut_slice(), item, key);
+            self.later += 1;
         }
-        let old = self.table[place];
-        let chain = enter(self.cells.as_mut_slice(), old.chain, item, key);
-        self.later = self.later.wrapping_add(1);
-        *self.compartment(place) = Compartment {
-            chain,
-            count: old.count.wrapping_add(1),
-        };
     }
 
     // Nothing waits in the compartments any more. At once where nothing waits.
+    #[tactic(auto, using(crate::proofs::Rims::blanks))]
     pub(super) fn clear(&mut self)
-        ensures { RimSound self.old → Becomes self.old (replicate (length (rim_keys self.old)) None) self.new }
+        ensures { Becomes self.old (replicate (length (rim_keys self.old)) None) self.new }
     {
-        if self.later == 0 {
-            return;
+        if self.later > 0 {
+            self.later = 0;
+            self.cells.fill(Cell::new());
+            self.table.fill(Compartment::new());
         }
-        self.later = 0;
-        blank_all(self.cells.as_mut_slice());
-        vacate_all(self.table.as_mut_slice());
     }
 
     // An item in the compartment of this number, if any lies there.
-    pub(super) fn first_in(&self, number: u32) -> Option<usize>
-        ensures { RimSound self.now → Lies self.now.width (rim_keys self.now) (number % 64) result }
+    #[tactic(auto, using(crate::proofs::Rims::lying))]
+    pub(super) fn first_in(&self, number: u32) -> Option<Entry>
+        ensures { Lies self.now.width (rim_keys self.now) (number % 64) result }
     {
-        let place = number as usize % COMPARTMENTS;
-        if place >= self.table.len() {
-            return None;
-        }
-        self.table[place].chain.first()
+        let item = self.table[number as usize % COMPARTMENTS].chain.first()?;
+        Some(Entry {
+            item,
+            key: self.key(item)?,
+        })
     }
 
     // An item of least key in the first compartment after this number that holds something.
+    #[tactic(auto, using(crate::proofs::Seek::held_place))]
     pub(super) fn least_after(&self, number: u32) -> Option<Entry>
         ensures { result ≡ rim_least number self.now }
     {
-        match self.first_held(number) {
-            Some(place) => self.least_in(place),
-            None => None,
-        }
+        self.least_in(self.first_held(number)?)
     }
 
     // The first compartment after this number that holds something.
     fn first_held(&self, number: u32) -> Option<usize>
         ensures { result ≡ first_held (rim_counts self.now) 64 number }
     {
-        for step in 0..COMPARTMENTS {
-            let place = (number as usize + step + 1) % COMPARTMENTS;
-            if place < self.table.len() && self.table[place].count > 0 {
-                return Some(place);
-            }
-        }
-        None
+        (0..COMPARTMENTS)
+            .map(|step| (number as usize + step + 1) % COMPARTMENTS)
+            .find(|&place| self.table[place].count > 0)
     }
 
-    // An item of least key in a compartment.
+    // An item of least key in a compartment. Along the links: an iterator over them would count beside it, to be sure to end.
+    #[tactic(auto, using(crate::proofs::Rims::walking))]
     fn least_in(&self, place: usize) -> Option<Entry>
+        requires { place < 64 }
         ensures { result ≡ least_at self.now (Some place) }
     {
-        if place >= self.table.len() {
-            return None;
-        }
-        let mut best: Option<Entry> = None;
+        let mut best = None;
         let mut at = self.table[place].chain.first();
-        for _ in 0..self.cells.len() {
-            let Some(item) = at else {
-                break;
-            };
-            if item >= self.cells.len() {
-                break;
-            }
+        while let Some(item) = at {
             let cell = self.cells[item];
-            best = nearer(best, item, cell.key);
-            at = cell.next;
+            best = nearer(best, item, cell.key());
+            at = cell.next();
         }
         best
     }
@@ -315,14 +224,6 @@ fn nearer(best: Option<Entry>, item: usize, key: Option<u32>) -> Option<Entry>
     let Some(key) = key else {
         return best;
     };
-    match best {
-        Some(entry) => {
-            if key < entry.key {
-                Some(Entry { item, key })
-            } else {
-                Some(entry)
-            }
-        }
-        None => Some(Entry { item, key }),
-    }
+    best.filter(|best| best.key <= key)
+        .or(Some(Entry { item, key }))
 }

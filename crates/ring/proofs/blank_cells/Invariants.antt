@@ -1,6 +1,0 @@
-use Rattle.std.proofs.Common.{◌≡◌, ℕ, ◌<◌, get_or, None}
-use Rattle.ring.specs.Standing.{keys}
-use Rattle.ring.proofs.blank_cells.Given as goal
-
-abbrev pub invariant-loop-cell : goal.invariant-loop-cell
-invariant-loop-cell l = (k : ℕ) → k < l.cell-index → get_or (keys l.cells) k None ≡ None
