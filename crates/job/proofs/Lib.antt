@@ -1,5 +1,4 @@
 pub mod Counts
-pub mod Dues
 pub mod Following
 pub mod Settling
 pub mod Spreading

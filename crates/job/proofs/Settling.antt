@@ -1,17 +1,10 @@
 -- An entry that a job notes, and one that a queue names.
-use Rattle.std.proofs.Common.{◌≡◌, ℕ, ◌+◌, ◌*◌, ◌/◌, ◌%◌, ◌<◌, ◌≤◌, true, false, List, length, get_or, set, Some, None, Ok, Err, Option, refl, ap, subst, inl, inr, mod-lt, div-lt_iff_lt-mul, arith}
-use Rattle.std.specs.Option.{ok_or}
+use Rattle.std.proofs.Common.{◌≡◌, ℕ, ◌+◌, ◌<◌, true, false, List, length, get_or, set, Some, None, Option, refl, ap, subst, inl, inr, arith}
 use Rattle.std.proofs.lemmas.List.{get_or_past}
 use Rattle.std.proofs.lemmas.Bool.{cases_lt, eqb-true, both_ways}
-use Rattle.figures.specs.Limits.{value_limit}
-use Rattle.queue.specs.Meaning.{Meaning, Least, Takes, Banded}
 use Rattle.queue.specs.declared.Entry.{Entry}
-use Rattle.queue.specs.declared.TakeRefusal.{TakeRefusal}
-use Rattle.queue.specs.declared.TakeRefusal.TheVariants.{NotWaiting, NotLeast}
 use Rattle.model.specs.declared.Pair.{Pair}
 use Rattle.model.specs.declared.Pair.TheVariants.{Unseen, Waiting, Settled}
-use Rattle.model.specs.declared.Refusal.{Refusal}
-use Rattle.model.specs.declared.Refusal.TheVariants.{NothingWaits}
 use Rattle.model.specs.State.{one_if, value_of, noted_key, settled_in, waiting_in}
 use Rattle.model.specs.Calls.{at_key, noted}
 use Rattle.job.proofs.Counts.{having_set, settled_having, waiting_having}
@@ -48,30 +41,3 @@ module _ (ps : List Pair) (e : Entry) (h : noted ps (Some e) ≡ true) (x : ℕ)
       let p = having_set value_of ps e.item (Settled x last) (noted_there ps e h) in
       let q = ap (λ o. one_if o 0) (waits_unsettled (get_or ps e.item Unseen) e.key (noted_is ps e h)) in
       omega (arith, settled_having ps, settled_having (set ps e.item (Settled x last)))
-
--- the ends of an item
-pub ends_of : (n i : ℕ) → 1 ≤ n → i < n * n → (i / n < n) × (i % n < n)
-ends_of n i p h = ((div-lt_iff_lt-mul p).1 h, mod-lt i p)
-
--- what a sound queue names
-pub named_small : (m : Meaning) (o : Option Entry) (e : Entry) → Banded m → Least m o → o ≡ Some e → e.key ≤ value_limit
-named_small m o e b l p = b.small e.item e.key (subst (Least m) p l).0
-
-pub named_is_taken : (m n : Meaning) (o : Option Entry) (e : Entry) (r : TakeRefusal) → Least m o → o ≡ Some e → Takes m e.item (Err r) n → ⊥
-named_is_taken m n o e NotWaiting l p t =
-    let q = (subst (Least m) p l).0 in let k = t.0 in let z : ◌≡◌ {A = ℕ} 0 1 = cc in omega arith
-named_is_taken m n o e NotLeast l p t =
-    let q = subst (Least m) p l in
-    let w = t.0 in
-    let k : w.0 ≡ e.key = (let a = q.0 in let b = w.1 in cc) in
-    let low = q.1 w.2.0 w.2.1 w.2.2 in
-    omega (arith, w.2.3)
-
--- the entry that is drawn is the one named
-pub first_is : (o : Option Entry) (e : Entry) → Ok e ≡ ok_or o NothingWaits → o ≡ Some e
-first_is None e p = let z : ◌≡◌ {A = ℕ} 0 1 = cc in absurd (omega arith)
-first_is (Some x) e p = cc
-
-pub first_none : (o : Option Entry) (r : Refusal) → Err r ≡ ok_or o NothingWaits → (o ≡ None) × (r ≡ NothingWaits)
-first_none None r p = (refl, cc)
-first_none (Some x) r p = let z : ◌≡◌ {A = ℕ} 0 1 = cc in absurd (omega arith)

@@ -4,29 +4,21 @@ use mathlib.Core.Logic.{∥∥₁_elim, ∥∥₁_prop}
 use base.Stored.{Coded-set, coded_ℕ, coded_via}
 use native.Mathlib.Bridge.{le_prop}
 use lib.ListN.{length-map}
-use Rattle.std.proofs.lemmas.List.{get_or_past, get_or_append_left, get_or_push, get_or-set_same, get_or-set_other, map-append, length_push, set_at}
+use Rattle.std.proofs.lemmas.List.{get_or_append_left, get_or_push, get_or-set_same, get_or-set_other, map-append, length_push, set_at}
 use Rattle.std.proofs.lemmas.Bool.{cases_eq, cases_lt, cond-true, cond-false, eq-eqb, ne_eqb}
 use Rattle.chains.specs.declared.Chain.{Chain}
 use Rattle.chains.specs.Threads.{Chained}
-use Rattle.figures.specs.Limits.{cost_limit}
 use Rattle.walks.specs.Hall.{Hall, leg}
 use Rattle.walks.specs.Hall as walks
 use Rattle.model.specs.State.{leaving, leaving_of}
 use Rattle.model.specs.Calls.{with_leg}
 use Rattle.job.specs.declared.leg.Leg.{Leg}
-use Rattle.job.specs.Legs.{leg_of, hall_of, nexts, no_chain, first_of, Inside}
+use Rattle.job.specs.Legs.{leg_of, hall_of, nexts, no_chain, first_of}
 use Rattle.job.specs.Shape.{Within, Threaded}
 
 -- no chain has an element
 abbrev pub Bare : List Chain → Type 0
 Bare chains = (v : ℕ) → first_of chains v ≡ None
-
-pub bare_within : (chains : List Chain) → ((v : ℕ) → v < length chains → first_of chains v ≡ None) → Bare chains
-bare_within chains h v =
-    elim (cases_lt v (length chains)) [
-      | inl l ↦ h v l
-      | inr l ↦ ap (λ c. c.first) (get_or_past chains v no_chain l)
-    ]
 
 pub bare_replicate : (n : ℕ) (c : Chain) → c.first ≡ None → Bare (replicate n c)
 bare_replicate zero c e v = refl
@@ -158,10 +150,6 @@ pub nexts_pushed : (xs ys : List Leg) (l : Leg) (i : ℕ) (head : Option ℕ) �
 nexts_pushed xs ys l i head k e =
     e ∙ (ap (λ r. set r i head) (map-append (λ y. y.next) xs (l ∷ []))
     ∙ set_at (nexts xs) l.next [] head i (length-map xs (λ y. y.next) ∙ k))
-
--- the legs as a spreading asks for them
-pub inside_of : (n b : ℕ) (legs : List Leg) → b ≤ cost_limit → Within n b legs → Inside n legs
-inside_of n b legs l w = record { to = λ i h. (w i h).1; cost = λ i h. let k = (w i h).2 in omega arith }
 
 -- that a list is chained is shown in one way at most
 number : Option ℕ → ℕ

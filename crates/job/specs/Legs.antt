@@ -3,10 +3,8 @@
 --   hall_of  the hall of a job's points, bound and legs
 --   nexts    the links: for each leg, the one laid before it that leaves the same point
 --   first_of the first leg of the chain of a point
---   Inside   every leg runs between points, and no cost is above the cost limit
-use Rattle.std.specs.Prelude.{ℕ, ◌<◌, ◌≤◌, List, map, length, None, Option, slice_index_or}
+use Rattle.std.specs.Prelude.{ℕ, List, map, None, Option, slice_index_or}
 use Rattle.chains.specs.declared.Chain.{Chain}
-use Rattle.figures.specs.Limits.{cost_limit}
 use Rattle.walks.specs.Hall.{Hall}
 use Rattle.walks.specs.Hall as walks
 use Rattle.job.specs.declared.leg.Leg.{Leg}
@@ -25,7 +23,3 @@ no_chain = record { first = None }
 
 abbrev pub first_of : List Chain → ℕ → Option ℕ
 first_of chains v = (slice_index_or chains v no_chain).first
-
-pub record Inside (n : ℕ) (ls : List Leg) : Type 0 where
-  pub to : (i : ℕ) → i < length ls → (walks.leg (hall_of n 0 ls) i).to < n
-  pub cost : (i : ℕ) → i < length ls → (walks.leg (hall_of n 0 ls) i).cost ≤ cost_limit

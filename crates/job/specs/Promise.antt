@@ -15,6 +15,7 @@ use Rattle.runs.specs.Law.{Law}
 use Rattle.job.specs.declared.permits.LayingPermit.{LayingPermit}
 use Rattle.job.specs.declared.permits.RestingPermit.{RestingPermit}
 use Rattle.job.specs.declared.permits.Docket.{Docket}
+use Rattle.job.specs.declared.permits.Refused.{Refused}
 use Rattle.job.specs.declared.working.Worked.{Worked}
 
 abbrev pub Trusted : JobState → Type 0
@@ -30,21 +31,21 @@ pub record Outcomes (cs : List Call) (s : JobState) (m : Meaning) (j : Rule) : T
       Longer r (λ x. Run (makes ∷ cs) t m j) (Run (asks ∷ cs) t m j)
   pub laying : (f g k : ℕ) (r : Result ℕ Refusal) (t : JobState) → Lays (λ x. x) s f g k r t →
       Longer r (λ x. Run (lays ∷ cs) t m j) (Run (asks ∷ cs) t m j)
-  pub opening : (q o : Meaning) (k : Rule) (r : Result RestingPermit (Refusal × LayingPermit)) (t : JobState) →
-      Lawful k.join k.reach → Opens (λ x. x.0) s q (reach_in k s) r t o →
+  pub opening : (q o : Meaning) (k : Rule) (r : Result RestingPermit (Refused LayingPermit)) (t : JobState) →
+      Lawful k.join k.reach → Opens (λ x. x.refusal) s q (reach_in k s) r t o →
       Longer r (λ x. Run (opens ∷ cs) t o k) (Run (asks ∷ cs) t m j)
-  pub drawing : (e : Option Entry) (o : Meaning) (r : Result Docket (Refusal × RestingPermit)) (t : JobState) → Least m e →
-      Draws (λ x. x.0) (λ d. d.from) (λ d. d.to) s m e r t o →
+  pub drawing : (e : Option Entry) (o : Meaning) (r : Result Docket (Refused RestingPermit)) (t : JobState) → Least m e →
+      Draws (λ x. x.refusal) (λ d. d.from) (λ d. d.to) s m e r t o →
       Longer r (λ d. Run (draws (record { from = d.from; to = d.to }) ∷ cs) t o j) (Run (asks ∷ cs) t m j)
-  pub spreading : (u v : ℕ) (e : Option Entry) (o : Meaning) (r : Result RestingPermit (Refusal × Docket)) (t : JobState) →
-      Least m e → Spreads (λ x. x.0) j.join (reach_in j s) s u v m e r t o →
+  pub spreading : (u v : ℕ) (e : Option Entry) (o : Meaning) (r : Result RestingPermit (Refused Docket)) (t : JobState) →
+      Least m e → Spreads (λ x. x.refusal) j.join (reach_in j s) s u v m e r t o →
       Longer r (λ x. Run (spreads (record { from = u; to = v }) ∷ cs) t o j) (Run (asks ∷ cs) t m j)
-  pub working : (b : ℕ) (e : Option Entry) (o : Meaning) (r : Result Worked (Refusal × RestingPermit)) (t : JobState) →
-      Least m e → Works (λ x. x.0) (λ w. w.settled) j.join (reach_in j s) s m e b r t o →
+  pub working : (b : ℕ) (e : Option Entry) (o : Meaning) (r : Result Worked (Refused RestingPermit)) (t : JobState) →
+      Least m e → Works (λ x. x.refusal) (λ w. w.settled) j.join (reach_in j s) s m e b r t o →
       Longer r (λ x. (es : List Entry) × (x.settled ≡ length es) × Run (works b (map (ends_of s) es) ∷ cs) t o j) (Run (asks ∷ cs) t m j)
   pub abandoning : (u v : ℕ) (r : Result LayingPermit Refusal) (t : JobState) → Abandons (λ x. x) s u v r t →
       Longer r (λ x. Run (empties ∷ cs) t m j) (Run (asks ∷ cs) t m j)
-  pub reopening : (r : Result LayingPermit (Refusal × RestingPermit)) (t : JobState) → Reopens (λ x. x.0) s r t →
+  pub reopening : (r : Result LayingPermit (Refused RestingPermit)) (t : JobState) → Reopens (λ x. x.refusal) s r t →
       Longer r (λ x. Run (empties ∷ cs) t m j) (Run (asks ∷ cs) t m j)
 
 abbrev pub OutcomesListed : JobState → Type 0

@@ -1,6 +1,6 @@
--- What holds of a job between calls.
---   Roomy     there is room for as many legs and pairs as may be
---   Sized     points, bound and legs keep their limits, and every point that may be has a chain
+-- What holds of a job, its hall and its table between calls.
+--   Roomy     there is room for as many legs, or pairs, as may be
+--   Sized     points, bound and legs keep their limits
 --   Within    every leg runs between points, and none costs more than the bound
 --   Threaded  the chain of each point holds the legs that leave it, the latest laid first
 --   Counted   how many pairs are settled, and how many wait
@@ -24,12 +24,11 @@ use Rattle.model.specs.Calls.{point_limit, leg_limit}
 use Rattle.job.specs.declared.leg.Leg.{Leg}
 use Rattle.job.specs.Legs.{hall_of, nexts, first_of}
 
-abbrev pub Roomy : ℕ → ℕ → Type 0
-Roomy legs pairs = (leg_limit ≤ legs) × (leg_limit ≤ pairs)
+abbrev pub Roomy : ℕ → Type 0
+Roomy room = leg_limit ≤ room
 
-abbrev pub Sized : ℕ → ℕ → ℕ → ℕ → Type 0
-Sized points bound legs chains =
-    (points ≤ point_limit) × (bound ≤ cost_limit) × (legs ≤ leg_limit) × (chains ≡ point_limit)
+abbrev pub Sized : ℕ → ℕ → ℕ → Type 0
+Sized points bound legs = (points ≤ point_limit) × (bound ≤ cost_limit) × (legs ≤ leg_limit)
 
 abbrev pub Within : ℕ → ℕ → List Leg → Type 0
 Within points bound legs = (i : ℕ) → i < length legs →

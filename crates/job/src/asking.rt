@@ -1,78 +1,63 @@
 // The calls that ask a job.
-ghost use Rattle.std.specs.Prelude.{◌≡◌, ◌+◌, ◌*◌, ◌<◌, ◌≤◌, true, length, vec_len};
+ghost use Rattle.std.specs.Prelude.{◌≡◌, ◌+◌, ◌*◌, ◌<◌, ◌≤◌, true, length, vec_len, IfOk, Some};
 ghost use Rattle.queue.specs.Meaning.{Least};
-ghost use Rattle.model.specs.Calls.{Looks, Reads, seen, is_settled, tally_of};
-ghost use Rattle.model.specs.State.{is_open, pair_at, value_of};
-ghost use Rattle.model.specs.declared.Pair.TheVariants.{Unseen};
-ghost use Rattle.job.specs.Parts.{Told, Noted};
+ghost use Rattle.model.specs.Calls.{Looks, Reads, noted, seen, tally_of};
+ghost use Rattle.model.specs.State.{is_open, last_leg, pair_at, route as route_of, value_of};
+ghost use Rattle.job.specs.Parts.{Told, Found, Stepped};
 ghost use Rattle.job.specs.Promise.{Trusted, OutcomesListed};
 ghost use Rattle.job.specs.View.{state_of};
 
-use crate::phases;
 use crate::state::Job;
-use crate::tries::{Fitness, fit_of, route_into, route_len};
+use figures::VALUE_LIMIT;
 use model::{Answer, Pair, Refusal, Tally};
-use queue::Queue;
-
-// The place of a pair in the table of so many points.
-fn place(points: usize, from: usize, to: usize) -> usize
-    requires { (points ≤ 40) × ((from < points) × (to < points)) }
-    ensures value { result ≡ from * points + to }
-    ensures bound { result < points * points }
-{
-    from * points + to
-}
-
-// Whether a pair is settled.
-fn settled(pair: Pair) -> bool
-    ensures { result ≡ is_settled pair }
-{
-    match pair {
-        Pair::Unseen => false,
-        Pair::Waiting { .. } => false,
-        Pair::Settled { .. } => true,
-    }
-}
+use queue::{Entry, Queue};
+use std::iter::successors;
 
 impl Job {
-    // What is known of a pair.
-    fn pair(&self, from: usize, to: usize) -> Pair
-        requires { (is_open self.now.phase ≡ true) × ((from < self.now.points) × (to < self.now.points)) }
-        ensures { result ≡ pair_at (state_of self.now) from to }
+    // What is known of a pair. Refused where the job is not open, and where there is no such pair. A pair's
+    // ends stay two numbers: callers give them so, and every contract names them apart.
+    fn pair(&self, from: usize, to: usize) -> Result<Pair, Refusal>
+        ensures { Found (state_of self.now) from to result }
     {
-        self.pairs[place(self.points, from, to)]
+        if !self.phase.is_open() {
+            return Err(Refusal::WrongPhase);
+        }
+        if from >= self.hall.points || to >= self.hall.points {
+            return Err(Refusal::NoSuchPoint);
+        }
+        Ok(self.table.pairs[from * self.hall.points + to])
     }
 
     // What is told of a pair.
     fn told(&self, pair: Pair) -> Answer
         ensures { result ≡ seen (state_of self.now) pair }
     {
-        let open = if phases::resting(self.phase) && self.waiting == 0 {
-            Answer::NoWay
-        } else {
-            Answer::NotYet { floor: self.floor }
-        };
         match pair {
-            Pair::Unseen => open,
-            Pair::Waiting { .. } => open,
             Pair::Settled { value, last } => Answer::Value { value, last },
+            _ if self.phase.is_resting() && self.table.waiting == 0 => Answer::NoWay,
+            _ => Answer::NotYet { floor: self.floor },
         }
     }
 
-    // Whether a queue and a rule's reach fit the job; if so, the entry that the queue names.
-    pub(crate) fn fit<Q: Queue>(&self, queue: &Q, reach: u32) -> Fitness
-        ensures value { Q.Queue.sound queue.now → Told self.now.pairs.items self.now.opening self.now.floor (Q.Queue.meaning queue.now) (Q.Queue.named queue.now) reach result }
+    // The entry that a queue names, if it and a rule's reach are as the job left them, so far as questions tell. Costs
+    // the queue's questions.
+    pub(crate) fn fit<Q: Queue>(&self, queue: &Q, reach: u32) -> Result<Option<Entry>, Refusal>
+        ensures value { Q.Queue.sound queue.now → Told (state_of self.now) (Q.Queue.meaning queue.now) (Q.Queue.named queue.now) reach result }
         ensures cases { Q.Queue.sound queue.now → Least (Q.Queue.meaning queue.now) (Q.Queue.named queue.now) }
-        ensures bound { Noted self.now.pairs.items result }
+        ensures bound { IfOk result (λ named. noted self.now.table.pairs.items named ≡ true) }
     {
-        fit_of(
-            self.pairs.as_slice(),
-            self.opening,
-            self.floor,
-            self.waiting,
-            queue,
-            reach,
-        )
+        let least = queue.least();
+        if reach != self.opening.reach
+            || queue.capacity() != self.opening.capacity
+            || queue.band() != self.opening.band
+            || queue.floor() != self.floor
+            || queue.waiting() != self.table.waiting
+            || self.floor.saturating_add(reach) > VALUE_LIMIT
+            || least.is_some_and(|entry| !self.table.notes(entry))
+        {
+            return Err(Refusal::Unfit);
+        }
+        Ok(least)
     }
 
     // Looks up a pair. Constant time beside the queue's questions. Refused where there is no
@@ -80,15 +65,50 @@ impl Job {
     pub fn look_up<Q: Queue>(&self, queue: &Q, from: usize, to: usize) -> Result<Answer, Refusal>
         ensures cases { Q.Queue.sound queue.now → Looks (λ x. x) (state_of self.now) from to (Q.Queue.meaning queue.now) (Q.Queue.named queue.now) result }
     {
-        if !phases::open(self.phase) {
-            return Err(Refusal::WrongPhase);
-        }
-        if from >= self.points || to >= self.points {
-            return Err(Refusal::NoSuchPoint);
-        }
-        match self.fit(queue, self.opening.reach) {
-            Fitness::Unfit => Err(Refusal::Unfit),
-            Fitness::Fit(_) => Ok(self.told(self.pair(from, to))),
+        let pair = self.pair(from, to)?;
+        self.fit(queue, self.opening.reach)?;
+        Ok(self.told(pair))
+    }
+
+    // The last leg of a pair.
+    fn last(&self, from: usize, to: usize) -> Option<usize>
+        ensures { result ≡ last_leg (pair_at (state_of self.now) from to) }
+    {
+        self.pair(from, to).ok()?.last()
+    }
+
+    // How many legs the route of a pair has: from the last one back, and no more than there are points.
+    fn route_len(&self, from: usize, to: usize) -> usize
+        ensures { result ≡ length (route_of (state_of self.now) from to) }
+    {
+        successors(self.last(from, to), |number| {
+            self.last(from, self.hall.origin(*number))
+        })
+        .take(self.points())
+        .count()
+    }
+
+    // One leg back from a pair: writes its last leg to a place of the route, and answers the point that it leaves.
+    fn step_back(&self, from: usize, to: usize, place: usize, route: &mut [usize]) -> Option<usize>
+        requires { place < length route.old }
+        ensures { Stepped (state_of self.now).hall (last_leg (pair_at (state_of self.now) from to)) place route.old result route.new }
+    {
+        let number = self.last(from, to)?;
+        route[place] = number;
+        Some(self.hall.origin(number))
+    }
+
+    // Writes the route of a pair, from its end back. By places: over `iter_mut().rev()` no invariant can name the slice.
+    fn write_route(&self, from: usize, to: usize, route: &mut [usize])
+        requires { length route.old ≡ length (route_of (state_of self.now) from to) }
+        ensures { route.new ≡ route_of (state_of self.now) from to }
+    {
+        let mut at = to;
+        for place in (0..route.len()).rev() {
+            match self.step_back(from, at, place, route) {
+                Some(before) => at = before,
+                None => return,
+            }
         }
     }
 
@@ -97,22 +117,14 @@ impl Job {
     pub fn route(&self, from: usize, to: usize, buffer: &mut [usize]) -> Result<usize, Refusal>
         ensures cases { Reads (λ x. x) (state_of self.now) from to buffer.old result buffer.new }
     {
-        if !phases::open(self.phase) {
-            return Err(Refusal::WrongPhase);
-        }
-        if from >= self.points || to >= self.points {
-            return Err(Refusal::NoSuchPoint);
-        }
-        if !settled(self.pair(from, to)) {
+        if self.pair(from, to)?.value().is_none() {
             return Err(Refusal::Unsettled);
         }
-        let legs = self.legs.as_slice();
-        let pairs = self.pairs.as_slice();
-        let len = route_len(legs, pairs, self.points, from, to);
+        let len = self.route_len(from, to);
         if len > buffer.len() {
             return Err(Refusal::BufferShort);
         }
-        route_into(legs, pairs, self.points, from, to, len, buffer);
+        self.write_route(from, to, &mut buffer[..len]);
         Ok(len)
     }
 
@@ -120,7 +132,7 @@ impl Job {
     fn laid(&self) -> usize
         ensures { result ≡ length (state_of self.now).hall.legs }
     {
-        self.legs.len()
+        self.hall.legs.len()
     }
 
     // The law over every list of calls: after each of them, an open job's settled routes are least walks, nothing
@@ -146,8 +158,8 @@ impl Job {
         Tally {
             phase: self.phase,
             legs: self.laid(),
-            settled: self.settled,
-            waiting: self.waiting,
+            settled: self.table.settled,
+            waiting: self.table.waiting,
             tried: self.tried,
         }
     }
@@ -156,23 +168,13 @@ impl Job {
     pub fn points(&self) -> usize
         ensures value { result ≡ (state_of self.now).hall.points }
     {
-        self.points
+        self.hall.points
     }
 
     // The value of a pair, if it is settled. Constant time.
     pub fn value(&self, from: usize, to: usize) -> Option<u32>
         ensures value { result ≡ value_of (pair_at (state_of self.now) from to) }
     {
-        if from >= self.points || to >= self.points {
-            return None;
-        }
-        if !phases::open(self.phase) {
-            return None;
-        }
-        match self.pair(from, to) {
-            Pair::Unseen => None,
-            Pair::Waiting { .. } => None,
-            Pair::Settled { value, .. } => Some(value),
-        }
+        self.pair(from, to).ok()?.value()
     }
 }

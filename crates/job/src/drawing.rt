@@ -1,58 +1,52 @@
 // The calls that draw pairs and spread them.
-ghost use Rattle.std.specs.Prelude.{◌≡◌, ◌+◌, ◌*◌, ◌<◌, ◌≤◌, true, false, length, IfOk, IfErr, Some, vec_len, vec_capacity, OnErr, slice_index_or, slice_set};
-ghost use Rattle.std.specs.Option.{ok_or};
-ghost use Rattle.model.specs.Calls.{Abandons, Draws, Spreads, noted, settle, drawn, spread as spread_of, spread_desk};
-ghost use Rattle.model.specs.State.{settled_in, waiting_in};
-ghost use Rattle.model.specs.declared.Pair.TheVariants.{Unseen};
-ghost use Rattle.model.specs.declared.Refusal.TheVariants.{NothingWaits};
+ghost use Rattle.std.specs.Prelude.{◌≡◌, ◌+◌, ◌<◌, ◌≤◌, false, IfOk, IfErr, Some, OnOk, OnErr, IsOkAnd, MatchResult};
+ghost use Rattle.figures.specs.Limits.{value_limit};
+ghost use Rattle.queue.specs.Meaning.{Least, taken};
+ghost use Rattle.model.specs.Calls.{Abandons, Draws, Spreads, settle, drawn, from_of, to_of, spread as spread_of, spread_desk, spread_due};
+ghost use Rattle.model.specs.Refusals.{Answers};
+ghost use Rattle.model.specs.declared.Refusal.TheVariants.{Unfit};
 ghost use Rattle.model.specs.declared.Phase.TheVariants.{Resting, Drawn};
+ghost use Rattle.job.specs.Parts.{Drawable};
 ghost use Rattle.job.specs.View.{state_of};
 
-use crate::permits::{Docket, LayingPermit, RestingPermit};
-use crate::phases;
+use crate::permits::{Docket, LayingPermit, Refused, RestingPermit};
 use crate::state::Job;
-use crate::tries::{Fitness, last_leg, spread_over};
 use figures::VALUE_LIMIT;
-use model::{Pair, Phase, Refusal};
+use model::{Phase, Refusal};
 use queue::{Entry, Queue};
 use rules::Rule;
 
-// The entry that is to be drawn, if there is one.
-fn first(named: Option<Entry>) -> Result<Entry, Refusal>
-    ensures { result ≡ ok_or named NothingWaits }
-{
-    match named {
-        Some(entry) => Ok(entry),
-        _ => Err(Refusal::NothingWaits),
-    }
-}
-
-// Settles the pair of an entry at its key.
-fn settle_at(pairs: &mut [Pair], entry: Entry)
-    requires { (noted pairs.old (Some entry) ≡ true) × (length pairs.old ≤ 1600) }
-    ensures after { pairs.new ≡ slice_set pairs.old entry.item (settle (slice_index_or pairs.old entry.item Unseen) entry.key) }
-    ensures len { (waiting_in pairs.new + 1 ≡ waiting_in pairs.old) × (settled_in pairs.new ≡ settled_in pairs.old + 1) }
-{
-    let pair = pairs[entry.item];
-    let value = entry.key;
-    let last = last_leg(pair);
-    pairs[entry.item] = Pair::Settled { value, last };
-}
-
 impl Job {
-    // Settles the pair of an entry that the job notes; its docket is out.
-    pub(crate) fn settle(&mut self, entry: Entry)
-        requires { (self.old.phase ≡ Resting) × ((noted self.old.pairs.items (Some entry) ≡ true) × (entry.key ≤ 16777215)) }
-        ensures { state_of self.new ≡ drawn (state_of self.old) entry }
+    // Settles the pair of an entry that the job notes, and answers its ends; its docket is out.
+    fn settle(&mut self, entry: Entry) -> (usize, usize)
+        requires { Drawable (state_of self.old) (Some entry) × (entry.key ≤ value_limit) }
+        ensures value { result ≡ (from_of (state_of self.old) entry, to_of (state_of self.old) entry) }
+        ensures after { state_of self.new ≡ drawn (state_of self.old) entry }
     {
-        settle_at(self.pairs.as_mut_slice(), entry);
-        self.settled += 1;
-        self.waiting -= 1;
+        let from = entry.item / self.hall.points;
+        let to = entry.item % self.hall.points;
+        self.table.settle(entry);
         self.floor = entry.key;
-        self.phase = Phase::Drawn {
-            from: entry.item / self.points,
-            to: entry.item % self.points,
-        };
+        self.phase = Phase::Drawn { from, to };
+        (from, to)
+    }
+
+    // Takes an entry that the job notes from the queue, and settles its pair: its ends. Refused where the queue does not
+    // give it: a sound one that names it does.
+    pub(crate) fn take<Q: Queue>(
+        &mut self,
+        entry: Entry,
+        queue: &mut Q,
+    ) -> Result<(usize, usize), Refusal>
+        requires { Drawable (state_of self.old) (Some entry) }
+        ensures value { Q.Queue.sound queue.old → Least (Q.Queue.meaning queue.old) (Some entry) → IsOkAnd result (λ ends. (ends.0 ≡ from_of (state_of self.old) entry) × (ends.1 ≡ to_of (state_of self.old) entry) × (state_of self.new ≡ drawn (state_of self.old) entry) × (Q.Queue.meaning queue.new ≡ taken (Q.Queue.meaning queue.old) entry.item entry.key)) }
+        ensures keeps { Q.Queue.sound queue.old → Q.Queue.sound queue.new }
+        ensures cases { MatchResult result (λ ends. self.new.phase ≡ Drawn ends.0 ends.1) (λ _. self.new ≡ self.old) }
+    {
+        if entry.key > VALUE_LIMIT || queue.take(entry.item).is_err() {
+            return Err(Refusal::Unfit);
+        }
+        Ok(self.settle(entry))
     }
 
     // Spreads the drawn pair: each leg that leaves its far end is tried.
@@ -69,23 +63,31 @@ impl Job {
         ensures keeps { Q.Queue.sound queue.old → Q.Queue.sound queue.new }
         ensures same { self.new.phase ≡ Resting }
     {
-        let legs = self.legs.as_slice();
-        let leaving = self.leaving.as_slice();
-        let pairs = self.pairs.as_mut_slice();
-        let spread = spread_over(
-            legs,
-            leaving,
-            self.points,
+        self.tried += self
+            .table
+            .spread(&self.hall, from, to, self.floor, queue, rule);
+        self.phase = Phase::Resting;
+    }
+
+    // Draws the entry that the queue names; the permit is the caller's to hand back.
+    fn draw_named<Q: Queue>(&mut self, queue: &mut Q) -> Result<Docket, Refusal>
+        ensures cases { Q.Queue.sound queue.old → Draws (λ x. x) (λ d. d.from) (λ d. d.to) (state_of self.old) (Q.Queue.meaning queue.old) (Q.Queue.named queue.old) result (state_of self.new) (Q.Queue.meaning queue.new) }
+        ensures keeps { Q.Queue.sound queue.old → Q.Queue.sound queue.new }
+        ensures same { OnErr result (self.new ≡ self.old) }
+        ensures refused { Q.Queue.sound queue.old → OnErr result (queue.new ≡ queue.old) }
+        ensures made { IfOk result (λ d. d.spent ≡ false) }
+    {
+        if !self.phase.is_resting() {
+            return Err(Refusal::WrongPhase);
+        }
+        let named = self.fit(queue, self.opening.reach)?;
+        let entry = named.ok_or(Refusal::NothingWaits)?;
+        let (from, to) = self.take(entry, queue)?;
+        Ok(Docket {
             from,
             to,
-            self.floor,
-            pairs,
-            queue,
-            rule,
-        );
-        self.waiting += spread.fresh;
-        self.tried += spread.tried;
-        self.phase = Phase::Resting;
+            spent: false,
+        })
     }
 
     // Draws the entry that the queue names: its pair is settled at its key, and its docket handed out. Constant time
@@ -94,36 +96,38 @@ impl Job {
         &mut self,
         permit: RestingPermit,
         queue: &mut Q,
-    ) -> Result<Docket, (Refusal, RestingPermit)>
-        ensures cases { Q.Queue.sound queue.old → Draws (λ x. x.0) (λ d. d.from) (λ d. d.to) (state_of self.old) (Q.Queue.meaning queue.old) (Q.Queue.named queue.old) result (state_of self.new) (Q.Queue.meaning queue.new) }
+    ) -> Result<Docket, Refused<RestingPermit>>
+        ensures cases { Q.Queue.sound queue.old → Draws (λ x. x.refusal) (λ d. d.from) (λ d. d.to) (state_of self.old) (Q.Queue.meaning queue.old) (Q.Queue.named queue.old) result (state_of self.new) (Q.Queue.meaning queue.new) }
         ensures keeps { Q.Queue.sound queue.old → Q.Queue.sound queue.new }
-        ensures same { IfErr result (λ x. (self.new ≡ self.old) × (x.1 ≡ permit)) }
+        ensures same { IfErr result (λ x. (self.new ≡ self.old) × (x.token ≡ permit)) }
         ensures refused { Q.Queue.sound queue.old → OnErr result (queue.new ≡ queue.old) }
         ensures made { IfOk result (λ d. d.spent ≡ false) }
     {
-        if !phases::resting(self.phase) {
-            return Err((Refusal::WrongPhase, permit));
+        match self.draw_named(queue) {
+            Ok(docket) => Ok(docket),
+            Err(refusal) => Err(Refused {
+                refusal,
+                token: permit,
+            }),
         }
-        let fitness = self.fit(queue, self.opening.reach);
-        let Fitness::Fit(named) = fitness else {
-            return Err((Refusal::Unfit, permit));
-        };
-        let entry = match first(named) {
-            Ok(entry) => entry,
-            Err(refusal) => return Err((refusal, permit)),
-        };
-        if entry.key > VALUE_LIMIT {
-            return Err((Refusal::Unfit, permit));
+    }
+
+    // Whether a docket may be spread.
+    fn spreads<Q: Queue, R: Rule>(
+        &self,
+        docket: &Docket,
+        queue: &Q,
+        rule: &R,
+    ) -> Result<(), Refusal>
+        ensures cases { Q.Queue.sound queue.now → Answers (spread_due (state_of self.now) docket.now.from docket.now.to (Q.Queue.meaning queue.now) (Q.Queue.named queue.now) (R.Rule.reaches rule.now (state_of self.now).hall.bound)) (λ x. x) result (Unit {0}) (λ _. Unit {0}) }
+        ensures made { OnOk result (self.now.phase ≡ Drawn docket.now.from docket.now.to) }
+    {
+        if !self.phase.is_drawn(docket.from, docket.to) {
+            return Err(Refusal::WrongPhase);
         }
-        if let Err(_) = queue.take(entry.item) {
-            return Err((Refusal::Unfit, permit));
-        }
-        self.settle(entry);
-        Ok(Docket {
-            from: entry.item / self.points,
-            to: entry.item % self.points,
-            spent: false,
-        })
+        let reach = rule.reach(self.hall.bound);
+        self.fit(queue, reach)?;
+        Ok(())
     }
 
     // Spreads the drawn pair: each leg that leaves its far end is tried, the latest laid first.
@@ -133,25 +137,22 @@ impl Job {
         docket: Docket,
         queue: &mut Q,
         rule: &R,
-    ) -> Result<RestingPermit, (Refusal, Docket)>
-        ensures cases { Q.Queue.sound queue.old → Spreads (λ x. x.0) (R.Rule.joined rule.now) (R.Rule.reaches rule.now self.old.bound) (state_of self.old) docket.from docket.to (Q.Queue.meaning queue.old) (Q.Queue.named queue.old) result (state_of self.new) (Q.Queue.meaning queue.new) }
+    ) -> Result<RestingPermit, Refused<Docket>>
+        ensures cases { Q.Queue.sound queue.old → Spreads (λ x. x.refusal) (R.Rule.joined rule.now) (R.Rule.reaches rule.now (state_of self.old).hall.bound) (state_of self.old) docket.from docket.to (Q.Queue.meaning queue.old) (Q.Queue.named queue.old) result (state_of self.new) (Q.Queue.meaning queue.new) }
         ensures keeps { Q.Queue.sound queue.old → Q.Queue.sound queue.new }
-        ensures same { IfErr result (λ x. (self.new ≡ self.old) × (queue.new ≡ queue.old) × (x.1 ≡ docket)) }
-        ensures made { IfOk result (λ p. p.points ≡ self.old.points) }
+        ensures same { IfErr result (λ x. (self.new ≡ self.old) × (queue.new ≡ queue.old) × (x.token ≡ docket)) }
+        ensures made { IfOk result (λ p. p.points ≡ (state_of self.old).hall.points) }
     {
-        if !phases::drawn(self.phase, docket.from, docket.to) {
-            return Err((Refusal::WrongPhase, docket));
+        if let Err(refusal) = self.spreads(&docket, queue, rule) {
+            return Err(Refused {
+                refusal,
+                token: docket,
+            });
         }
-        let reach = rule.reach(self.bound);
-        let points = self.points;
-        match self.fit(queue, reach) {
-            Fitness::Unfit => Err((Refusal::Unfit, docket)),
-            Fitness::Fit(_) => {
-                let (from, to) = docket.spend();
-                self.spread_drawn(from, to, queue, rule);
-                Ok(RestingPermit { points })
-            }
-        }
+        let points = self.hall.points;
+        let (from, to) = docket.spend();
+        self.spread_drawn(from, to, queue, rule);
+        Ok(RestingPermit { points })
     }
 
     // Gives the drawn pair up: the table is emptied, and the legs stand. Constant time. Refused where the docket's pair is
@@ -159,15 +160,15 @@ impl Job {
     pub fn abandon(&mut self, docket: Docket) -> Result<LayingPermit, Refusal>
         ensures cases { Abandons (λ x. x) (state_of self.old) docket.from docket.to result (state_of self.new) }
         ensures same { OnErr result (self.new ≡ self.old) }
-        ensures made { IfOk result (λ p. p.points ≡ self.old.points) }
+        ensures made { IfOk result (λ p. p.points ≡ (state_of self.old).hall.points) }
     {
         let (from, to) = docket.spend();
-        if !phases::drawn(self.phase, from, to) {
+        if !self.phase.is_drawn(from, to) {
             return Err(Refusal::WrongPhase);
         }
-        self.empty();
+        self.close(Phase::Laying);
         Ok(LayingPermit {
-            points: self.points,
+            points: self.hall.points,
         })
     }
 }

@@ -10,15 +10,15 @@
 
 mod asking;
 mod drawing;
+mod hall;
 mod laying;
 mod leg;
 mod opening;
 mod permits;
-mod phases;
 mod state;
-mod tries;
+mod table;
 mod working;
 
-pub use permits::{Docket, LayingPermit, RestingPermit};
+pub use permits::{Docket, LayingPermit, Refused, RestingPermit};
 pub use state::Job;
 pub use working::Worked;

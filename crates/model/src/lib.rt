@@ -1,11 +1,16 @@
 // The words of a job: its phases, what is known of a pair, what a call answers and why it is refused.
 //
 // The definitions here say what every call of a job does, over a job's state and a queue's meaning; the crate `job` has
-// the calls themselves. This crate promises only the refusals' numbers; it has no job, no queue and no bytes.
+// the calls themselves. This crate promises what phases and pairs tell of themselves, and the refusals' numbers and texts;
+// it has no job, no queue and no bytes.
 #![tactic(auto)]
 
-ghost use Rattle.std.specs.Prelude.{◌≡◌};
-ghost use Rattle.model.specs.Refusals.{refusal_number};
+ghost use Rattle.std.specs.Prelude.{◌≡◌, Some};
+ghost use Rattle.model.specs.Refusals.{refusal_number, refusal_text};
+ghost use Rattle.model.specs.State.{is_laying, is_resting, is_open, is_drawn, value_of, noted_key, last_leg};
+
+use std::error::Error;
+use std::fmt;
 
 // The most points of a hall.
 pub const POINT_LIMIT: usize = 40;
@@ -27,6 +32,36 @@ pub enum Phase {
     Drawn { from: usize, to: usize },
 }
 
+impl Phase {
+    // Whether legs may be laid.
+    pub fn is_laying(self) -> bool
+        ensures { result ≡ is_laying self }
+    {
+        matches!(self, Phase::Laying)
+    }
+
+    // Whether the job is open, and no docket is out.
+    pub fn is_resting(self) -> bool
+        ensures { result ≡ is_resting self }
+    {
+        matches!(self, Phase::Resting)
+    }
+
+    // Whether there is a table.
+    pub fn is_open(self) -> bool
+        ensures { result ≡ is_open self }
+    {
+        matches!(self, Phase::Resting | Phase::Drawn { .. })
+    }
+
+    // Whether the pair of two points is the drawn one.
+    pub fn is_drawn(self, from: usize, to: usize) -> bool
+        ensures { result ≡ is_drawn self from to }
+    {
+        matches!(self, Phase::Drawn { from: start, to: far } if start == from && far == to)
+    }
+}
+
 // What is known of a pair. The last leg is that of the best walk so far, none for a start's own pair.
 #[derive(Clone, Copy, PartialEq, Eq, Debug)]
 pub enum Pair {
@@ -38,6 +73,38 @@ pub enum Pair {
     Settled { value: u32, last: Option<usize> },
 }
 
+impl Pair {
+    // The value of a settled pair.
+    pub fn value(self) -> Option<u32>
+        ensures { result ≡ value_of self }
+    {
+        match self {
+            Pair::Settled { value, .. } => Some(value),
+            Pair::Unseen | Pair::Waiting { .. } => None,
+        }
+    }
+
+    // The key of a waiting pair.
+    pub fn key(self) -> Option<u32>
+        ensures { result ≡ noted_key self }
+    {
+        match self {
+            Pair::Waiting { key, .. } => Some(key),
+            Pair::Unseen | Pair::Settled { .. } => None,
+        }
+    }
+
+    // The last leg of the best walk so far.
+    pub fn last(self) -> Option<usize>
+        ensures { result ≡ last_leg self }
+    {
+        match self {
+            Pair::Waiting { last, .. } | Pair::Settled { last, .. } => last,
+            Pair::Unseen => None,
+        }
+    }
+}
+
 // What a job was opened with: the reach of its bound, and the queue's capacity and band.
 #[derive(Clone, Copy, PartialEq, Eq, Debug)]
 pub struct Opening {
@@ -46,7 +113,7 @@ pub struct Opening {
     pub band: u32,
 }
 
-// What a look-up answers.
+// What a look-up answers. Three cases, two of them with a value: an `Option` or a `Result` has two.
 #[derive(Clone, Copy, PartialEq, Eq, Debug)]
 pub enum Answer {
     // The pair is settled at its value, by a walk with this last leg.
@@ -72,61 +139,72 @@ pub struct Tally {
 #[derive(Clone, Copy, PartialEq, Eq, Debug)]
 pub enum Refusal {
     // Points not 1 to 40.
-    Points,
+    Points = 1,
     // Bound not 1 to 4,095.
-    Bound,
+    Bound = 2,
     // A leg's point is not below the number of points.
-    LegPoint,
+    LegPoint = 3,
     // A leg's cost is above the bound.
-    LegCost,
+    LegCost = 4,
     // As many legs stand as may.
-    LegsFull,
+    LegsFull = 5,
     // The queue's capacity is below the number of pairs.
-    Capacity,
+    Capacity = 6,
     // The queue's band is below the reach of the bound.
-    Band,
+    Band = 7,
     // Values could pass the largest key.
-    Range,
+    Range = 8,
     // The job is in another phase, or the docket's pair is not the drawn one.
-    WrongPhase,
+    WrongPhase = 10,
     // The queue or the rule does not fit the job.
-    Unfit,
+    Unfit = 11,
     // A point is not below the number of points.
-    NoSuchPoint,
+    NoSuchPoint = 12,
     // The buffer is too short.
-    BufferShort,
+    BufferShort = 13,
     // The pair is not settled.
-    Unsettled,
+    Unsettled = 14,
     // Nothing waits for a drawing.
-    NothingWaits,
+    NothingWaits = 15,
     // The job is not finished.
-    Unfinished,
+    Unfinished = 16,
     // The budget is above 65,535.
-    Budget,
+    Budget = 17,
 }
 
-impl Refusal {
-    // The refusal's number.
-    pub fn number(self) -> u32
-        ensures { result ≡ refusal_number self }
-    {
-        match self {
-            Refusal::Points => 1,
-            Refusal::Bound => 2,
-            Refusal::LegPoint => 3,
-            Refusal::LegCost => 4,
-            Refusal::LegsFull => 5,
-            Refusal::Capacity => 6,
-            Refusal::Band => 7,
-            Refusal::Range => 8,
-            Refusal::WrongPhase => 10,
-            Refusal::Unfit => 11,
-            Refusal::NoSuchPoint => 12,
-            Refusal::BufferShort => 13,
-            Refusal::Unsettled => 14,
-            Refusal::NothingWaits => 15,
-            Refusal::Unfinished => 16,
-            Refusal::Budget => 17,
-        }
+// The refusal's number.
+impl From<Refusal> for u32 {
+    ghost from_gives = { λ r n. n ≡ refusal_number r };
+
+    fn from(refusal: Refusal) -> u32 {
+        refusal as u32
     }
 }
+
+// What is said of the refusal.
+impl fmt::Display for Refusal {
+    ghost output = { λ r. Some (refusal_text r) };
+
+    fn fmt<W: fmt::Write>(&self, f: &mut fmt::Formatter<W>) -> fmt::Result {
+        f.write_str(match self {
+            Refusal::Points => "points not 1 to 40",
+            Refusal::Bound => "bound not 1 to 4095",
+            Refusal::LegPoint => "a leg's point is none of the hall",
+            Refusal::LegCost => "a leg's cost is above the bound",
+            Refusal::LegsFull => "as many legs stand as may",
+            Refusal::Capacity => "the queue has too few items",
+            Refusal::Band => "the queue's band is too small",
+            Refusal::Range => "values could pass the largest key",
+            Refusal::WrongPhase => "the job is in another phase",
+            Refusal::Unfit => "the queue or the rule does not fit the job",
+            Refusal::NoSuchPoint => "there is no such point",
+            Refusal::BufferShort => "the buffer is too short",
+            Refusal::Unsettled => "the pair is not settled",
+            Refusal::NothingWaits => "nothing waits for a drawing",
+            Refusal::Unfinished => "the job is not finished",
+            Refusal::Budget => "the budget is above 65535",
+        })
+    }
+}
+
+impl Error for Refusal {}

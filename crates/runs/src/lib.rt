@@ -7,7 +7,7 @@
 ghost use Rattle.std.specs.Prelude.{◌≡◌};
 ghost use Rattle.runs.specs.Law.{LawOverRuns};
 
-// The law over every list of calls, proved; it answers 0.
+// The law over every list of calls, proved; it answers 0, which was promised, and so stays.
 pub fn law_stands() -> u8
     ensures value { result ≡ 0 }
     ensures keeps { LawOverRuns }

@@ -1,7 +1,7 @@
 // Cheapest walks by a shared queue of pairs: the theory.
 //
 // It speaks of halls, walks and states of a search, and of no program, queue or byte. `search_stands` has all of its
-// theorems in its contract; each function below it stands for some of them, and answers 0.
+// theorems in its contract; each function below it stands for some of them, and there is nothing to do.
 #![tactic(auto)]
 
 ghost use Rattle.walks.specs.Laws.{FrontIsKept, SettledStand, EntriesAtRest, Bounded, RoutesStand};
@@ -29,64 +29,46 @@ pub fn search_stands()
 }
 
 // The front stands at the opening, and every event of a search keeps it.
-pub fn front_is_kept() -> u8
+pub fn front_is_kept()
     ensures { FrontIsKept }
-{
-    0
-}
+{}
 
 // What is settled is least, nearest first, and all of it when nothing waits.
-pub fn settled_stand() -> u8
+pub fn settled_stand()
     ensures { SettledStand }
-{
-    0
-}
+{}
 
 // What waits at rest, and at which key.
-pub fn entries_are_exact() -> u8
+pub fn entries_are_exact()
     ensures { EntriesAtRest }
-{
-    0
-}
+{}
 
 // How large values and keys grow.
-pub fn values_are_bounded() -> u8
+pub fn values_are_bounded()
     ensures { Bounded }
-{
-    0
-}
+{}
 
 // Last legs followed back give a walk of the settled value, and no other route follows them.
-pub fn routes_stand() -> u8
+pub fn routes_stand()
     ensures { RoutesStand }
-{
-    0
-}
+{}
 
 // The legs that leave a point, and the pairs that have a walk, are counted.
-pub fn counts_stand() -> u8
+pub fn counts_stand()
     ensures { CountsStand }
-{
-    0
-}
+{}
 
 // The tally stands at the opening, and every event of a search keeps it.
-pub fn tally_is_kept() -> u8
+pub fn tally_is_kept()
     ensures { TallyIsKept }
-{
-    0
-}
+{}
 
 // What units settle, and that every run has its front and its tally.
-pub fn units_settle() -> u8
+pub fn units_settle()
     ensures { UnitsSettle }
-{
-    0
-}
+{}
 
 // Writes to lists that keep pairs by their items are the events of a search.
-pub fn tables_stand() -> u8
+pub fn tables_stand()
     ensures { TablesStand }
-{
-    0
-}
+{}

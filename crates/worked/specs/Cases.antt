@@ -19,7 +19,7 @@ use Rattle.queue.specs.declared.Offered.{Offered}
 use Rattle.queue.specs.declared.Offered.TheVariants.{Entered}
 use Rattle.queue.specs.declared.OfferRefusal.{OfferRefusal}
 use Rattle.queue.specs.Meaning.{Meaning, key_of, Least, Offers, offer_number}
-use Rattle.ring.specs.declared.Cell.{Cell}
+use Rattle.chains.specs.declared.cells.Cell.{Cell}
 use Rattle.ring.specs.Standing.{fits, meant, fresh as fresh_ring}
 use Rattle.heap.specs.Contents.{fresh as fresh_heap, Tried as HeapTried}
 use Rattle.wheel.specs.Wheels.{Fresh as FreshWheel, Tried as WheelTried}

@@ -1,82 +1,55 @@
-use Rattle.std.proofs.Common.{◌≡◌, ◌+◌, true, false, sym, refl, ◌∙◌, subst, arith}
-use Rattle.std.proofs.lemmas.Bool.{both_ways}
+use Rattle.std.proofs.Common.{◌≡◌, ◌+◌, true, sym, ◌∙◌, subst, arith}
 use Rattle.queue.specs.Meaning.{Least}
-use Rattle.model.specs.Calls.{noted, fits, after_unit}
+use Rattle.model.specs.Calls.{fits, after_unit}
 use Rattle.job.specs.View.{state_of}
 use Rattle.job.proofs.Units.{Goes, goes_none, goes_empty, goes_spent, goes_more, goes_unfit}
 use Rattle.job.proofs.state.Job.run.Goals as goal
 
 pub loop-done-init : goal.loop-done-init
 loop-done-init g c = (
-  c.requires.0,
-  c.requires.1,
+  c.requires,
   (λ s. s),
   (λ s l f. (l, f, goes_none (g.R.Rule.joined c.args.rule.now) c.args.reach c.args.budget (state_of c.args.self.now) (g.Q.Queue.meaning c.args.queue.now))),
 )
 
-pub returns-in-None : goal.returns-in-None
-returns-in-None g c = record {
-  value = λ s l f.
-      let m = g.Q.Queue.meaning c.loop-done.queue in
-      let h = c.loop-done.invariant.3 s l f in
-      goes_empty (g.R.Rule.joined c.args.rule.now) c.args.reach c.args.budget (state_of c.args.self.now) (g.Q.Queue.meaning c.args.queue.now)
-      c.loop-done.done (state_of c.loop-done.self) m h.2 (subst (Least m) c.in-None.is h.0);
-  keeps = c.loop-done.invariant.2;
-}
-
-pub unit-requires : goal.unit-requires
-unit-requires g c =
-    (c.loop-done.invariant.0, subst (λ o. noted c.loop-done.self.pairs.items o ≡ true) c.in-Some.is c.loop-done.invariant.1)
-
-pub returns-then-not-unit : goal.returns-then-not-unit
-returns-then-not-unit g c =
-    let inv = c.loop-done.invariant in
-    let u = c.if-not-unit.ensures in
-    record {
-      value = λ s l f.
-          let least = subst (Least (g.Q.Queue.meaning c.loop-done.queue)) c.in-Some.is (inv.3 s l f).0 in
-          absurd (both_ways false refl (u.value (inv.2 s) least).0);
-      keeps = λ s. u.keeps (inv.2 s);
-    }
-
-pub returns-in-Unfit : goal.returns-in-Unfit
-returns-in-Unfit g c =
-    let inv = c.loop-done.invariant in
-    let u = c.if-not-unit.ensures in
-    let a = c.in-Unfit.ensures in
-    let e = c.in-Some.entry in
+pub returns-in_default-clause-value : goal.returns-in_default-clause-value
+returns-in_default-clause-value g c s l f =
     let m = g.Q.Queue.meaning c.loop-done.queue in
-    let t = state_of c.unit.new.self in
+    let h = c.loop-done.invariant.2 s l f in
+    goes_empty (g.R.Rule.joined c.args.rule.now) c.args.reach c.args.budget (state_of c.args.self.now) (g.Q.Queue.meaning c.args.queue.now)
+    c.loop-done.done (state_of c.loop-done.self) m h.2 (subst (Least m) c.in_default.is h.0)
+
+pub returns-in-Err-clause-value : goal.returns-in-Err-clause-value
+returns-in-Err-clause-value g c s l f =
+    let inv = c.loop-done.invariant in
+    let u = c.unit.ensures in
+    let a = c.in-Err.ensures in
+    let m = g.Q.Queue.meaning c.loop-done.queue in
     let q = c.unit.new.queue in
-    record {
-      value = λ s l f.
-          let h = inv.3 s l f in
-          let sound = inv.2 s in
-          let least = subst (Least m) c.in-Some.is h.0 in
-          let fit = subst (λ o. fits (state_of c.loop-done.self) m o c.args.reach ≡ true) c.in-Some.is h.1 in
-          goes_unfit (g.R.Rule.joined c.args.rule.now) c.args.reach c.args.budget (state_of c.args.self.now) (g.Q.Queue.meaning c.args.queue.now)
-          c.loop-done.done (state_of c.loop-done.self) m h.2 e t (g.Q.Queue.meaning q) (g.Q.Queue.named q)
-          c.loop-done-test.true least fit (u.value sound least).1 (u.after sound least) (a.cases (u.keeps sound)) (a.value (u.keeps sound));
-      keeps = λ s. u.keeps (inv.2 s);
-    }
+    let h = inv.2 s l f in
+    let sound = inv.1 s in
+    let least = subst (Least m) c.in-Some.is h.0 in
+    let fit = subst (λ o. fits (state_of c.loop-done.self) m o c.args.reach ≡ true) c.in-Some.is h.1 in
+    goes_unfit (g.R.Rule.joined c.args.rule.now) c.args.reach c.args.budget (state_of c.args.self.now) (g.Q.Queue.meaning c.args.queue.now)
+    c.loop-done.done (state_of c.loop-done.self) m h.2 c.in-Some.entry (state_of c.unit.new.self) (g.Q.Queue.meaning q) (g.Q.Queue.named q)
+    c.loop-done-test.true least fit (u.value sound least).1 (u.after sound least) (a.cases (u.keeps sound)) (a.value (u.keeps sound)).1
 
 pub loop-done-preserved : goal.loop-done-preserved
 loop-done-preserved g c =
     let inv = c.loop-done.invariant in
-    let u = c.if-not-unit.ensures in
-    let a = c.in-Fit.ensures in
+    let u = c.unit.ensures in
+    let a = c.in-Ok.ensures in
     let e = c.in-Some.entry in
     let join = g.R.Rule.joined c.args.rule.now in
     let before = state_of c.loop-done.self in
     let m = g.Q.Queue.meaning c.loop-done.queue in
     let t = state_of c.unit.new.self in
     let o = g.Q.Queue.meaning c.unit.new.queue in (
-      u.same,
-      a.bound,
-      (λ s. u.keeps (inv.2 s)),
+      (u.same, a.bound),
+      (λ s. u.keeps (inv.1 s)),
       (λ s l f.
-          let h = inv.3 s l f in
-          let sound = inv.2 s in
+          let h = inv.2 s l f in
+          let sound = inv.1 s in
           let least = subst (Least m) c.in-Some.is h.0 in
           let fit = subst (λ o. fits before m o c.args.reach ≡ true) c.in-Some.is h.1 in
           let named = a.value (u.keeps sound) in
@@ -90,13 +63,10 @@ loop-done-preserved g c =
           )),
     )
 
-pub returns : goal.returns
-returns g c = record {
-  value = λ s l f.
-      let h = c.loop-done.invariant.3 s l f in
-      let r = goes_spent (g.R.Rule.joined c.args.rule.now) c.args.reach c.args.budget (state_of c.args.self.now) (g.Q.Queue.meaning c.args.queue.now)
-      c.loop-done.done (state_of c.loop-done.self) (g.Q.Queue.meaning c.loop-done.queue) h.2 c.loop-done-test.false in
-      let p : c.args.budget ≡ c.loop-done.done = omega (arith, c.loop-done-test.false, c.loop-done.auto.done-end) in
-      (r.0, p ∙ r.1, r.2);
-  keeps = c.loop-done.invariant.2;
-}
+pub returns-clause-value : goal.returns-clause-value
+returns-clause-value g c s l f =
+    let h = c.loop-done.invariant.2 s l f in
+    let r = goes_spent (g.R.Rule.joined c.args.rule.now) c.args.reach c.args.budget (state_of c.args.self.now) (g.Q.Queue.meaning c.args.queue.now)
+    c.loop-done.done (state_of c.loop-done.self) (g.Q.Queue.meaning c.loop-done.queue) h.2 c.loop-done-test.false in
+    let p : c.args.budget ≡ c.loop-done.done = omega (arith, c.loop-done-test.false, c.loop-done.auto.done-end) in
+    (r.0, p ∙ r.1, r.2)

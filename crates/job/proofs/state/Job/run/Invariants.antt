@@ -1,7 +1,7 @@
 use Rattle.std.proofs.Common.{◌≡◌, true}
 use Rattle.queue.specs.Meaning.{Least}
-use Rattle.model.specs.declared.Phase.TheVariants.{Resting}
-use Rattle.model.specs.Calls.{noted, fits}
+use Rattle.model.specs.Calls.{fits}
+use Rattle.job.specs.Parts.{Drawable}
 use Rattle.job.specs.View.{state_of}
 use Rattle.job.proofs.Units.{Goes}
 use Rattle.job.proofs.state.Job.run.Given as goal
@@ -9,7 +9,7 @@ use Rattle.job.proofs.state.Job.run.Given as goal
 -- the next entry is noted; for a sound queue it is the one named, the job is fit, and the units done go on as the rest does
 abbrev pub invariant-loop-done : goal.invariant-loop-done
 invariant-loop-done g l =
-    (l.self.phase ≡ Resting) × (noted l.self.pairs.items l.next ≡ true)
+    Drawable (state_of l.self) l.next
     × (g.Q.Queue.sound l.initial.queue → g.Q.Queue.sound l.queue)
     × (g.Q.Queue.sound l.initial.queue → Least (g.Q.Queue.meaning l.initial.queue) l.initial.next
     → fits (state_of l.initial.self) (g.Q.Queue.meaning l.initial.queue) l.initial.next l.reach ≡ true
