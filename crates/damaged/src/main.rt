@@ -2,8 +2,8 @@
 // promises nothing, and only calls `maker::answer`.
 #![tactic(auto)]
 
-use maker::Reply;
-use std::alloc::Global;
+use maker::Unanswered;
+use std::alloc::{AllocError, Global};
 
 // The worked sheet, which is also cut off at every place.
 const WORKED: &[u8] = b"ST 4 9\nLG 0 1 2\nLG 1 2 2\nLG 0 2 5\nLG 2 0 9\nEN 4\n";
@@ -53,16 +53,17 @@ const SHEETS: [&[u8]; 40] = [
 
 // What halltable answers in one line.
 fn tell(rt: &HostRuntime, heap: Global, sheet: &[u8]) -> anyhow::Result<()> {
-    match maker::answer(heap, sheet)? {
-        Reply::Listing(listing) => {
+    match maker::answer(heap, sheet) {
+        Ok(listing) => {
             let bytes = listing.len();
             println!(rt; "a listing of {bytes} bytes")?;
             Ok(())
         }
-        Reply::Fault(line) => {
+        Err(Unanswered::Fault(line)) => {
             rt.stdout().write_all(line.as_bytes())?;
             Ok(())
         }
+        Err(Unanswered::OutOfMemory) => Err(AllocError.into()),
     }
 }
 

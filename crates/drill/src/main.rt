@@ -4,7 +4,7 @@
 // the same keys in the same order. A test: it promises nothing.
 #![tactic(auto)]
 
-use anyhow::anyhow;
+use anyhow::{Context, ensure};
 use chains::Chain;
 use heap::Heap;
 use queue::Queue;
@@ -24,9 +24,10 @@ fn drill<Q: Queue>(rt: &HostRuntime, name: &str, queue: &mut Q) -> anyhow::Resul
         };
         let key = entry.key;
         print!(rt; " {key}")?;
-        if queue.take(entry.item).is_err() {
-            return Err(anyhow!("the least item was not taken"));
-        }
+        ensure!(
+            queue.take(entry.item).is_ok(),
+            "the least item was not taken"
+        );
         if turn % 3 == 0 {
             let _ = queue.offer(entry.item, key.saturating_add(60));
         }
@@ -41,7 +42,7 @@ fn tell<Q: Queue>(rt: &HostRuntime, queue: &mut Q, item: usize, key: u32) -> any
     match queue.offer(item, key) {
         Ok(offered) => println!(rt; "item {item} at key {key}: {offered:?}")?,
         Err(refusal) => {
-            let number = refusal.number();
+            let number = u32::from(refusal);
             println!(rt; "item {item} at key {key}: {number}")?;
         }
     }
@@ -55,23 +56,24 @@ fn edges(rt: &HostRuntime) -> anyhow::Result<()> {
     let mut ring = Ring::new(&mut slots, &mut cells);
     tell(rt, &mut ring, 0, 2)?;
     let _ = ring.take(0);
-    tell(rt, &mut ring, 1, 11)?;
-    tell(rt, &mut ring, 2, 12)?;
-    tell(rt, &mut ring, 3, 1)?;
-    tell(rt, &mut ring, 16, 1)?;
-    tell(rt, &mut ring, 1, 5)?;
-    tell(rt, &mut ring, 1, 9)?;
-    tell(rt, &mut ring, 1, 12)
+    for (item, key) in [(1, 11), (2, 12), (3, 1), (16, 1), (1, 5), (1, 9), (1, 12)] {
+        tell(rt, &mut ring, item, key)?;
+    }
+    Ok(())
+}
+
+// A wheel on a queue.
+fn wheel_on<Q: Queue + Drop>(rt: &HostRuntime, width: u32, below: Q) -> anyhow::Result<Wheel<Q>> {
+    Wheel::new(rt.alloc(), width, below)
+        .ok()
+        .context("no memory")
 }
 
 // The wheel that halltable uses: width 64 on a ring of 64 slots.
 fn widest(rt: &HostRuntime) -> anyhow::Result<()> {
     let mut slots = [Chain::new(); 64];
     let mut cells = [ring::Cell::new(); 40];
-    let ring = Ring::new(&mut slots, &mut cells);
-    let Ok(wheel) = Wheel::new(rt.alloc(), 64, ring) else {
-        return Err(anyhow!("no memory"));
-    };
+    let wheel = wheel_on(rt, 64, Ring::new(&mut slots, &mut cells))?;
     let band = wheel.band();
     println!(rt; "a wheel of width 64 on a ring of 64 slots: band {band}")?;
     Ok(())
@@ -111,33 +113,23 @@ fn trials(rt: &HostRuntime) -> anyhow::Result<()> {
 fn simple(rt: &HostRuntime) -> anyhow::Result<()> {
     let mut slots = [Chain::new(); 128];
     let mut cells = [ring::Cell::new(); 40];
-    let mut ring = Ring::new(&mut slots, &mut cells);
-    drill(rt, "ring", &mut ring)?;
+    drill(rt, "ring", &mut Ring::new(&mut slots, &mut cells))?;
     let mut cells = [heap::Cell::new(); 40];
-    let mut heap = Heap::new(&mut cells);
-    drill(rt, "heap", &mut heap)
+    drill(rt, "heap", &mut Heap::new(&mut cells))
 }
 
 fn wheels(rt: &HostRuntime) -> anyhow::Result<()> {
     let mut slots = [Chain::new(); 4];
     let mut cells = [ring::Cell::new(); 40];
-    let ring = Ring::new(&mut slots, &mut cells);
-    let Ok(mut wheel) = Wheel::new(rt.alloc(), 4, ring) else {
-        return Err(anyhow!("no memory"));
-    };
+    let mut wheel = wheel_on(rt, 4, Ring::new(&mut slots, &mut cells))?;
     let band = wheel.band();
     let capacity = wheel.capacity();
     println!(rt; "a wheel of width 4: band {band}, capacity {capacity}")?;
     drill(rt, "wheel on ring", &mut wheel)?;
-    let Ok(mut upper) = Wheel::new(rt.alloc(), 7, wheel) else {
-        return Err(anyhow!("no memory"));
-    };
+    let mut upper = wheel_on(rt, 7, wheel)?;
     drill(rt, "wheel on wheel", &mut upper)?;
     let mut cells = [heap::Cell::new(); 40];
-    let heap = Heap::new(&mut cells);
-    let Ok(mut wheel) = Wheel::new(rt.alloc(), 3, heap) else {
-        return Err(anyhow!("no memory"));
-    };
+    let mut wheel = wheel_on(rt, 3, Heap::new(&mut cells))?;
     drill(rt, "wheel on heap", &mut wheel)
 }
 

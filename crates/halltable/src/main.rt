@@ -4,33 +4,28 @@
 // error. Nothing is written before the answer is known.
 #![tactic(auto)]
 
-use maker::Reply;
+use maker::Unanswered;
+use sheet::SHEET_LIMIT;
+use std::alloc::AllocError;
 use std::io::Read;
 use std::process::ExitCode;
 
 // One byte more than the longest sheet: enough to know that a sheet is too long.
-const READ_LIMIT: u64 = 32_769;
+const READ_LIMIT: u64 = SHEET_LIMIT as u64 + 1;
 
-// Whether the sheet was taken.
-fn run(rt: &HostRuntime) -> anyhow::Result<bool> {
+fn main(rt: HostRuntime) -> anyhow::Result<ExitCode> {
     let heap = rt.alloc();
     let mut sheet = Vec::new(heap);
     rt.stdin().take(READ_LIMIT).read_to_end(&mut sheet)?;
-    match maker::answer(heap, sheet.as_slice())? {
-        Reply::Listing(listing) => {
+    match maker::answer(heap, sheet.as_slice()) {
+        Ok(listing) => {
             rt.stdout().write_all(listing.as_slice())?;
-            Ok(true)
+            Ok(ExitCode::SUCCESS)
         }
-        Reply::Fault(line) => {
+        Err(Unanswered::Fault(line)) => {
             rt.stdout().write_all(line.as_bytes())?;
-            Ok(false)
+            Ok(ExitCode::FAILURE)
         }
+        Err(Unanswered::OutOfMemory) => Err(AllocError.into()),
     }
-}
-
-fn main(rt: HostRuntime) -> anyhow::Result<ExitCode> {
-    if run(&rt)? {
-        return Ok(ExitCode::SUCCESS);
-    }
-    Ok(ExitCode::FAILURE)
 }

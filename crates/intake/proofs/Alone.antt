@@ -1,49 +1,34 @@
 -- To some bytes one thing is due: a hall of which they are the sheet, and which is taken whole, or a fault.
 -- Assumes nothing.
-use Rattle.std.proofs.Common.{◌≡◌, ℕ, suc, ◌+◌, ◌<◌, ◌≤◌, Bool, true, false, not, ◌&&◌, ltb, leb, List, [], ◌∷◌, ◌++◌, length, None, sym, refl, ap, ◌∙◌, subst, ⊎_elim, append_assoc, arith, length-append, le-ltb, lt-ltb, le-leb}
+use Rattle.std.proofs.Common.{◌≡◌, ℕ, suc, ◌+◌, ◌<◌, ◌≤◌, true, false, List, [], ◌∷◌, ◌++◌, length, None, sym, refl, ap, ◌∙◌, subst, ⊎_elim, append_assoc, arith, length-append}
 use Rattle.std.specs.List.{flat_map, AllByRecursion}
 use Rattle.std.proofs.lemmas.List.{append-nil, length_push}
 use Rattle.std.proofs.lemmas.Bool.{cases_lt}
-use borrow.Author.Tests.{lt-leb}
-use Rattle.figures.specs.Limits.{cost_limit}
+use Rattle.std.proofs.lemmas.Bool.Decides.{nat_tests}
 use Rattle.walks.specs.Hall.{Hall, Leg}
 use Rattle.model.specs.declared.Phase.TheVariants.{Laying}
-use Rattle.model.specs.declared.Refusal.TheVariants.{Points, Bound, LegPoint, LegCost, LegsFull}
-use Rattle.model.specs.Refusals.{due}
 use Rattle.model.specs.State.{JobState, closed}
-use Rattle.model.specs.Calls.{point_limit, leg_limit, between, make_due, lay_due}
-use Rattle.sheet.specs.Numbers.{form_number}
+use Rattle.model.specs.Calls.{leg_limit, make_due, lay_due}
 use Rattle.sheet.specs.Reading.{Standing, opening, LineRead, more, close}
 use Rattle.sheet.specs.declared.FormFault.TheVariants.{TooLong}
 use Rattle.sheet.specs.declared.Kind.TheVariants.{Start, Leg as LegLine, End}
 use Rattle.sheet.proofs.Sheets.{more_small}
-use Rattle.intake.specs.declared.Layer.TheVariants.{Sheet}
+use Rattle.intake.specs.declared.Cause.TheVariants.{Form}
 use Rattle.intake.specs.declared.SheetFault.{SheetFault}
-use Rattle.intake.specs.Sheets.{sheet_limit, leg_line, end_line, Inside, Valid, Obeys, fault, Taken, none, one_more, Due, too_long, by_form, by_numbers, OneAnswer}
-use Rattle.intake.proofs.Dues.{due_clear}
+use Rattle.intake.specs.Faults.{fault}
+use Rattle.intake.specs.Sheets.{sheet_limit, leg_line, end_line, Inside, Valid, Obeys, Taken, none, one_more, Due, too_long, by_form, by_numbers, OneAnswer}
 use Rattle.intake.proofs.Ends.{Ended, one_end, due_ends}
 use Rattle.intake.proofs.Stages.{lines_are}
 
-both : (a b : Bool) → a ≡ true → b ≡ true → not (a && b) ≡ false
-both a b p q = ap (λ x. not (x && b)) p ∙ ap not q
-
 make_clear : (h : Hall) → Valid h → make_due h.points h.bound ≡ None
-make_clear h v =
-    due_clear (not (between 1 h.points point_limit)) Points (due (not (between 1 h.bound cost_limit)) Bound None)
-    (both (leb 1 h.points) (leb h.points point_limit) (le-leb 1 h.points v.some_points) (le-leb h.points point_limit v.few_points))
-    (due_clear (not (between 1 h.bound cost_limit)) Bound None
-    (both (leb 1 h.bound) (leb h.bound cost_limit) (le-leb 1 h.bound v.some_bound) (le-leb h.bound cost_limit v.low_bound)) refl)
+make_clear h v = grind (arith, nat_tests)
 
 -- the hall with some legs only
 abbrev part : Hall → List Leg → Hall
 part h ls = record { points = h.points; bound = h.bound; legs = ls }
 
 lay_clear : (h : Hall) (ls : List Leg) (l : Leg) → Inside h l → length ls < leg_limit → lay_due (closed Laying (part h ls)) l.from l.to l.cost ≡ None
-lay_clear h ls l (f, g, k) few =
-    due_clear (not (ltb l.from h.points && ltb l.to h.points)) LegPoint (due (ltb h.bound l.cost) LegCost (due (leb leg_limit (length ls)) LegsFull None))
-    (both (ltb l.from h.points) (ltb l.to h.points) (lt-ltb l.from h.points f) (lt-ltb l.to h.points g))
-    (due_clear (ltb h.bound l.cost) LegCost (due (leb leg_limit (length ls)) LegsFull None) (le-ltb h.bound l.cost k)
-    (due_clear (leb leg_limit (length ls)) LegsFull None (lt-leb leg_limit (length ls) few) refl))
+lay_clear h ls l (f, g, k) few = grind (arith, nat_tests)
 
 all_mid : (P : Leg → Type 0) (ls : List Leg) (l : Leg) (ms : List Leg) → AllByRecursion P (ls ++ l ∷ ms) → P l
 all_mid P [] l ms a = a.0
@@ -136,7 +121,7 @@ module _ (bytes : List ℕ) (h : Hall) (obeys : Obeys bytes h) where
       legs_end h.legs [] 1 t record { split = refl; going = refl; some = omega arith; legs = refl; rest = refl }
       (one_more Start (h.points ∷ h.bound ∷ []) none this (make_clear h obeys.valid))
 
-long_fault : {bytes : List ℕ} {f : SheetFault} → Due bytes f → sheet_limit < length bytes → f ≡ fault (form_number TooLong) 0 Sheet
+long_fault : {bytes : List ℕ} {f : SheetFault} → Due bytes f → sheet_limit < length bytes → f ≡ fault (Form TooLong) 0
 long_fault (too_long _) long = refl
 long_fault (by_form e short taken wrong) long = absurd (omega arith)
 long_fault (by_numbers kind ks e short taken this wrong) long = absurd (omega arith)

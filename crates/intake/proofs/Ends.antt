@@ -3,15 +3,14 @@
 use Rattle.std.proofs.Common.{◌≡◌, ℕ, suc, ◌<◌, ◌≤◌, List, length, Some, None, Option, sym, refl, ap, ◌∙◌, subst, ⊎_elim, arith}
 use Rattle.std.proofs.lemmas.Bool.{cases_lt, cases_order}
 use Rattle.model.specs.declared.Refusal.{Refusal}
-use Rattle.model.specs.Refusals.{refusal_number}
 use Rattle.model.specs.State.{JobState}
-use Rattle.sheet.specs.Numbers.{form_number}
 use Rattle.sheet.specs.Reading.{Standing, LineRead, more, Outcome, line, close, fault as faulted, Reads}
 use Rattle.sheet.specs.declared.Kind.{Kind}
 use Rattle.sheet.proofs.Outcomes.{one_outcome}
-use Rattle.intake.specs.declared.Layer.TheVariants.{Sheet, Job}
+use Rattle.intake.specs.declared.Cause.TheVariants.{Form, Numbers}
 use Rattle.intake.specs.declared.SheetFault.{SheetFault}
-use Rattle.intake.specs.Sheets.{sheet_limit, line_due, after_line, fault, Taken, none, one_more, Due, too_long, by_form, by_numbers}
+use Rattle.intake.specs.Faults.{fault}
+use Rattle.intake.specs.Sheets.{sheet_limit, line_due, after_line, Taken, none, one_more, Due, too_long, by_form, by_numbers}
 
 -- lines are taken in one way
 taken_one : {bytes : List ℕ} {n m : ℕ} {r q : Standing} {s v : JobState} → Taken bytes n r s → Taken bytes m q v → n ≡ m → (r ≡ q) × (s ≡ v)
@@ -43,13 +42,13 @@ Ends s (faulted f k) = Unit {0}
 
 abbrev pub refused : ℕ → Option Refusal → Option SheetFault
 refused n None = None
-refused n (Some e) = Some (fault (refusal_number e) (suc n) Job)
+refused n (Some e) = Some (fault (Numbers e) (suc n))
 
 -- the fault that it tells after n lines
 abbrev pub told : ℕ → JobState → Outcome → Option SheetFault
 told n s (line kind ks) = refused n (line_due s kind ks)
 told n s close = None
-told n s (faulted f k) = Some (fault (form_number f) (suc n) Sheet)
+told n s (faulted f k) = Some (fault (Form f) (suc n))
 
 -- a reading that ends with the job at s, and tells a fault or none
 pub record Ended (bytes : List ℕ) (s : JobState) (f : Option SheetFault) : Type 0 where

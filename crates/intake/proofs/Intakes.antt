@@ -1,59 +1,84 @@
 -- From one line to a whole sheet: what is due to the sheet, and the list of calls that it is.
 -- Assumes nothing.
-use Rattle.std.proofs.Common.{◌≡◌, ℕ, suc, ◌<◌, ◌≤◌, Bool, true, false, List, [], ◌∷◌, ◌++◌, length, Ok, Err, sym, refl, ap, ◌∙◌, subst, inl, inr, add-one, arith, length-append}
+use Rattle.std.proofs.Common.{◌≡◌, ℕ, suc, ◌<◌, ◌≤◌, List, [], ◌∷◌, length, Ok, Err, Result, sym, ap, ◌∙◌, subst, inl, inr, add-one, arith}
+use Rattle.std.specs.Result.{MatchResult, IsErrAnd}
 use Rattle.std.proofs.lemmas.List.{length_push}
-use Rattle.std.proofs.lemmas.Bool.{both_ways}
+use Rattle.std.proofs.lemmas.Result.{err_from_is_err_and}
 use Rattle.queue.specs.Meaning.{Meaning}
 use Rattle.model.specs.declared.Refusal.{Refusal}
-use Rattle.model.specs.Calls.{laid, lay_due, Lays, made, make_due, Makes}
-use Rattle.model.specs.Refusals.{refusal_number}
+use Rattle.model.specs.Calls.{laid, made as made_hall, make_due, Makes}
 use Rattle.model.specs.State.{JobState, blank}
-use Rattle.sheet.specs.Form.{written}
-use Rattle.sheet.specs.Numbers.{form_number}
-use Rattle.sheet.specs.Reading.{Standing, opening, LineRead}
+use Rattle.sheet.specs.Reading.{Standing, opening, LineRead, Faulty, more, Due as LineDue}
 use Rattle.sheet.specs.declared.Fault.{Fault}
 use Rattle.sheet.specs.declared.FormFault.TheVariants.{TooLong}
 use Rattle.sheet.specs.declared.Kind.{Kind}
 use Rattle.sheet.specs.declared.Kind.TheVariants.{Start, Leg, End}
-use Rattle.runs.specs.Lists.{Rule, Call, Run, making, laying}
-use Rattle.intake.specs.declared.Layer.TheVariants.{Sheet, Job}
+use Rattle.runs.specs.Lists.{Rule, Call, Run, making, laying, blanking}
+use Rattle.intake.specs.declared.Cause.TheVariants.{Form, Numbers}
 use Rattle.intake.specs.declared.SheetFault.{SheetFault}
-use Rattle.intake.specs.Sheets.{sheet_limit, nth, fault, Taken, none, one_more, Due, too_long, by_form, by_numbers, layings}
-use Rattle.intake.specs.Steps.{FaultAt, LineTaken, Steps}
-use Rattle.intake.proofs.Stages.{next_line}
+use Rattle.intake.specs.Faults.{fault}
+use Rattle.intake.specs.Sheets.{sheet_limit, nth, line_due, after_line, Taken, none, one_more, Due, too_long, by_form, by_numbers, layings, Obeys, Exactly, Refuses, Continues}
+use Rattle.intake.specs.Steps.{FaultAt, LineTaken, Starts, TakesLine, Took}
+use Rattle.walks.specs.Hall.{Hall}
+use Rattle.intake.proofs.Alone.{only_fault}
+use Rattle.intake.proofs.Stages.{lines_are, next_line}
 use Rattle.job.specs.declared.permits.LayingPermit.{LayingPermit}
 use Rattle.runs.proofs.Answered.{accepted, refused}
 
--- the first line, and the job's refusal of its numbers
+-- the first line, and the job's answer to its numbers, whose refusal is made a fault
 module _ (r t : Standing) (s u : JobState) (n b : ℕ) (line : LineRead r Start (n ∷ b ∷ []) t) where
-  pub start_refused : (e : Refusal) (x : SheetFault) → Makes {T = LayingPermit} {E = Refusal} (λ y. y) s n b (Err e) u → x ≡ fault (refusal_number e) t.lines Job → FaultAt r blank x
-  start_refused e x answer is =
-      let (some, same) = refused (λ y. y) (u ≡ s) (λ (_ : LayingPermit). u ≡ made n b) (make_due n b) e answer in
-      inr (Start, (n ∷ b ∷ []), t, e, line, some, is ∙ ap (λ k. fault (refusal_number e) k Job) line.lines)
+  pub start_answered : {F : Refusal → SheetFault → Type 0} (m : Result LayingPermit Refusal) (x : Result LayingPermit SheetFault) → Makes {T = LayingPermit} {E = Refusal} (λ y. y) s n b m u →
+      MatchResult m (λ p. x ≡ Ok p) (λ e. IsErrAnd x (F e)) → ((e : Refusal) (f : SheetFault) → F e f → f ≡ fault (Numbers e) t.lines) → Starts r x t u
+  start_answered (Ok p) x answer is made =
+      let (clear, done) = accepted {E = Refusal} (λ y. y) (u ≡ s) (λ (_ : LayingPermit). u ≡ made_hall n b) (make_due n b) p answer in
+      subst (λ y. Starts r y t u) (sym is) (n ∷ b ∷ [], line, clear, done)
+  start_answered (Err e) x answer is made =
+      let (some, same) = refused (λ y. y) (u ≡ s) (λ (_ : LayingPermit). u ≡ made_hall n b) (make_due n b) e answer in
+      let (f, eq, post) = err_from_is_err_and x is in
+      subst (λ y. Starts r y t u) (sym eq)
+      (inr (Start, (n ∷ b ∷ []), t, e, line, some, made e f post ∙ ap (λ k. fault (Numbers e) k) line.lines))
 
--- a leg line, and the job's answer to its numbers
-module _ (r t : Standing) (s u : JobState) (f g k : ℕ) (line : LineRead r Leg (f ∷ g ∷ k ∷ []) t) where
-  pub leg_taken : (number : ℕ) → Lays {E = Refusal} (λ x. x) s f g k (Ok number) u → (kind : Kind) × LineTaken kind r s t u
-  leg_taken number answer =
-      let (clear, done) = accepted {E = Refusal} (λ x. x) (u ≡ s) (λ i. (i ≡ length s.hall.legs) × (u ≡ laid s f g k)) (lay_due s f g k) number answer in
-      (Leg, (f ∷ g ∷ k ∷ [], line, clear, done.1))
+-- a later line is no start
+pub later_line : {bytes : List ℕ} {n : ℕ} {r t : Standing} {s : JobState} {kind : Kind} {ks : List ℕ} → Taken bytes n r s → 0 < n →
+    LineRead r kind ks t → kind ≡ Start → ⊥
+later_line {r = r} taken some line is =
+    let first = subst (λ k. LineDue r.lines k) is line.due in
+    absurd (omega (arith, lines_are taken))
 
-  pub leg_refused : (e : Refusal) (x : SheetFault) → Lays (λ y. y) s f g k (Err e) u → x ≡ fault (refusal_number e) t.lines Job → FaultAt r s x
-  leg_refused e x answer is =
-      let (some, same) = refused (λ y. y) (u ≡ s) (λ i. (i ≡ length s.hall.legs) × (u ≡ laid s f g k)) (lay_due s f g k) e answer in
-      inr (Leg, (f ∷ g ∷ k ∷ []), t, e, line, some, is ∙ ap (λ n. fault (refusal_number e) n Job) line.lines)
+-- a later line, and the answer to its numbers, whose refusal is made a fault
+module _ {bytes : List ℕ} {n : ℕ} {r t : Standing} {s : JobState} {kind : Kind} {ks : List ℕ}
+    (u : JobState) (short : length bytes ≤ sheet_limit) (taken : Taken bytes n r s) (line : LineRead r kind ks t) where
+  pub line_answered : {F : Refusal → SheetFault → Type 0} (m : Result (Unit {0}) Refusal) (x : Result (Unit {0}) SheetFault) → TakesLine s kind ks m u →
+      MatchResult m (λ p. x ≡ Ok p) (λ e. IsErrAnd x (F e)) → ((e : Refusal) (f : SheetFault) → F e f → f ≡ fault (Numbers e) t.lines) →
+      MatchResult x (λ _. Taken bytes (suc n) t u) (λ f. Due bytes f)
+  line_answered (Ok p) x answer is made =
+      let (clear, done) = accepted {E = Refusal} (λ y. y) (u ≡ s) (λ (_ : Unit {0}). u ≡ after_line s kind ks) (line_due s kind ks) p answer in
+      subst (λ y. MatchResult y (λ _. Taken bytes (suc n) t u) (λ f. Due bytes f)) (sym is)
+      (subst (λ v. Taken bytes (suc n) t v) (sym done) (one_more kind ks taken line clear))
+  line_answered (Err e) x answer is made =
+      let (some, same) = refused (λ y. y) (u ≡ s) (λ (_ : Unit {0}). u ≡ after_line s kind ks) (line_due s kind ks) e answer in
+      let (f, eq, post) = err_from_is_err_and x is in
+      let which : f ≡ fault (Numbers e) (suc n) = made e f post ∙ ap (λ k. fault (Numbers e) k) (line.lines ∙ next_line taken) in
+      subst (λ y. MatchResult y (λ _. Taken bytes (suc n) t u) (λ f. Due bytes f)) (sym eq)
+      (subst (λ g. Due bytes g) (sym which) (by_numbers kind ks e short taken line some))
+
+-- a fault of form that the reader tells
+pub form_due : {bytes : List ℕ} {n : ℕ} {r : Standing} {s : JobState} (f : Fault) (x : SheetFault) → length bytes ≤ sheet_limit → Taken bytes n r s →
+    Faulty r f.form → f.line ≡ more r.lines → x ≡ fault (Form f.form) f.line → Due bytes x
+form_due {bytes} f x short taken faulty at is =
+    subst (λ y. Due bytes y) (sym (is ∙ ap (λ k. fault (Form f.form) k) (at ∙ next_line taken))) (by_form f.form short taken faulty)
 
 pub fault_due : {bytes : List ℕ} {n : ℕ} {r : Standing} {s : JobState} {f : SheetFault} → length bytes ≤ sheet_limit → Taken bytes n r s →
     FaultAt r s f → Due bytes f
 fault_due {bytes} {n} {r} {s} {f} short taken (inl (e, faulty, is)) =
-    subst (λ x. Due bytes x) (sym (is ∙ ap (λ k. fault (form_number e) k Sheet) (next_line taken))) (by_form e short taken faulty)
+    subst (λ x. Due bytes x) (sym (is ∙ ap (λ k. fault (Form e) k) (next_line taken))) (by_form e short taken faulty)
 fault_due {bytes} {n} {r} {s} {f} short taken (inr (kind, ks, t, e, line, due, is)) =
-    subst (λ x. Due bytes x) (sym (is ∙ ap (λ k. fault (refusal_number e) k Job) (next_line taken))) (by_numbers kind ks e short taken line due)
+    subst (λ x. Due bytes x) (sym (is ∙ ap (λ k. fault (Numbers e) k) (next_line taken))) (by_numbers kind ks e short taken line due)
 
 pub too_long_due : (bytes : List ℕ) (f : Fault) (x : SheetFault) → sheet_limit < length bytes → f ≡ record { form = TooLong; line = 0 } →
-    x ≡ fault (form_number f.form) f.line Sheet → Due bytes x
+    x ≡ fault (Form f.form) f.line → Due bytes x
 too_long_due bytes f x long e is =
-    subst (λ y. Due bytes y) (sym (is ∙ ap (λ g. fault (form_number g.form) g.line Sheet) e)) (too_long long)
+    subst (λ y. Due bytes y) (sym (is ∙ ap (λ g. fault (Form g.form) g.line) e)) (too_long long)
 
 -- the first line
 module _ (bytes : List ℕ) (r : Standing) (e : r ≡ opening bytes) where
@@ -65,29 +90,6 @@ module _ (bytes : List ℕ) (r : Standing) (e : r ≡ opening bytes) where
 
   pub first_taken : (t : Standing) (u : JobState) → LineTaken Start r blank t u → Taken bytes 1 t u
   first_taken t u (ks, line, due, is) = subst (λ x. Taken bytes 1 t x) (sym is) (one_more Start ks at_first line due)
-
--- a later line
-shorter : (kind : Kind) (ks rest : List ℕ) → length rest < length (written kind ks ++ rest)
-shorter Start ks rest = omega (arith, length-append (written Start ks) rest)
-shorter Leg ks rest = omega (arith, length-append (written Leg ks) rest)
-shorter End ks rest = omega (arith, length-append (written End ks) rest)
-
-module _ (r t : Standing) (s u : JobState) where
-  pub step_falls : (b : Bool) → b ≡ true → Steps r s (Ok b) t u → length t.rest < length r.rest
-  step_falls true e (kind, (ks, line, due, is)) = omega (arith, ap length line.bytes, shorter kind ks t.rest)
-  step_falls false e step = absurd (both_ways false refl e)
-
-  pub step_ends : (b : Bool) → b ≡ false → Steps r s (Ok b) t u → (r.closed ≡ true) × (r.rest ≡ []) × (u ≡ s)
-  step_ends true e step = absurd (both_ways true e refl)
-  step_ends false e step = step
-
-  pub step_taken : (bytes : List ℕ) (n : ℕ) (b : Bool) → b ≡ true → Taken bytes n r s → Steps r s (Ok b) t u → Taken bytes (suc n) t u
-  step_taken bytes n true e taken (kind, (ks, line, due, is)) = subst (λ x. Taken bytes (suc n) t x) (sym is) (one_more kind ks taken line due)
-  step_taken bytes n false e taken step = absurd (both_ways false refl e)
-
--- the close leaves the job
-pub taken_on : {bytes : List ℕ} {n : ℕ} {r : Standing} {s u : JobState} → u ≡ s → Taken bytes n r s → Taken bytes n r u
-taken_on {bytes} {n} {r} e taken = subst (λ x. Taken bytes n r x) (sym e) taken
 
 -- some lines taken after a list of calls: a making and its layings
 pub taken_run : {cs : List Call} {s : JobState} {m : Meaning} {j : Rule} {bytes : List ℕ} {n : ℕ} {r : Standing} {u : JobState} →
@@ -103,3 +105,18 @@ taken_run {cs} {s} {m} {j} run some (one_more {s = v} Leg ks (one_more kind hs t
     subst (λ k. Run (layings k cs) (laid v (nth ks 0) (nth ks 1) (nth ks 2)) m j) (sym size) (laying (nth ks 0) (nth ks 1) (nth ks 2) earlier fine)
 taken_run run some (one_more End ks (one_more kind hs taken line due) next fine) =
     taken_run run (omega arith) (one_more kind hs taken line due)
+
+-- what is answered at a fault that is due, which a `?` passes on
+pub at_fault : {T : Type 0} {Q : SheetFault → Type 0} (bytes : List ℕ) (s u : JobState) (r : Result T SheetFault) → IsErrAnd r Q →
+    ((x : SheetFault) → Q x → Due bytes x) →
+    record {
+      cases : Took bytes r u;
+      bound : (h : Hall) → Obeys bytes h → Exactly h r u;
+      refused : (f : SheetFault) → Due bytes f → Refuses f r;
+      keeps : (cs : List Call) (m : Meaning) (j : Rule) → Run cs s m j → Continues cs m j r u;
+    }
+at_fault bytes s u r is wrong =
+    let (x, e, q) = err_from_is_err_and r is in
+    let due = wrong x q in
+    let (never, one) = only_fault due in
+    rw e (record { cases = due; bound = never; refused = one; keeps = λ cs m j run. blanking run })

@@ -1,5 +1,4 @@
 -- Sheets of halls, and what is wrong with other bytes.
---   layer_letter  the letter of a layer
 --   hall_sheet    the sheet of a hall: the start with points and bound, a line for each leg in order, the end with the
 --                 number of legs
 --   Valid         a hall that a sheet may describe
@@ -21,25 +20,19 @@ use Rattle.queue.specs.Meaning.{Meaning}
 use Rattle.walks.specs.Hall.{Hall}
 use Rattle.walks.specs.Hall as walks
 use Rattle.model.specs.Calls.{point_limit, leg_limit, make_due, made, lay_due, laid}
-use Rattle.model.specs.Refusals.{refusal_number}
 use Rattle.model.specs.State.{JobState, blank, closed}
 use Rattle.model.specs.declared.Phase.TheVariants.{Laying}
 use Rattle.model.specs.declared.Refusal.{Refusal}
 use Rattle.sheet.specs.Form.{written}
-use Rattle.sheet.specs.Numbers.{form_number}
 use Rattle.sheet.specs.Reading.{Standing, opening, LineRead, Faulty}
 use Rattle.sheet.specs.declared.FormFault.{FormFault}
 use Rattle.sheet.specs.declared.FormFault.TheVariants.{TooLong}
 use Rattle.sheet.specs.declared.Kind.{Kind}
 use Rattle.sheet.specs.declared.Kind.TheVariants.{Start, Leg, End}
 use Rattle.runs.specs.Lists.{Rule, Call, makes, lays, blanks, Run}
-use Rattle.intake.specs.declared.Layer.{Layer}
-use Rattle.intake.specs.declared.Layer.TheVariants.{Sheet, Job}
+use Rattle.intake.specs.declared.Cause.TheVariants.{Form, Numbers}
 use Rattle.intake.specs.declared.SheetFault.{SheetFault}
-
-abbrev pub layer_letter : Layer → ℕ
-layer_letter Sheet = 83
-layer_letter Job = 74
+use Rattle.intake.specs.Faults.{fault}
 
 abbrev pub sheet_limit : ℕ
 sheet_limit = 32768
@@ -92,17 +85,14 @@ pub data Taken (bytes : List ℕ) : ℕ → Standing → JobState → Type 0 whe
   one_more : {n : ℕ} {r t : Standing} {s : JobState} (kind : Kind) (ks : List ℕ) → Taken bytes n r s →
       LineRead r kind ks t → line_due s kind ks ≡ None → Taken bytes (suc n) t (after_line s kind ks)
 
-abbrev pub fault : ℕ → ℕ → Layer → SheetFault
-fault k n l = record { number = k; line = n; layer = l }
-
 -- lines count from 1
 pub data Due (bytes : List ℕ) : SheetFault → Type 0 where
-  too_long : sheet_limit < length bytes → Due bytes (fault (form_number TooLong) 0 Sheet)
+  too_long : sheet_limit < length bytes → Due bytes (fault (Form TooLong) 0)
   by_form : {n : ℕ} {r : Standing} {s : JobState} (e : FormFault) → length bytes ≤ sheet_limit → Taken bytes n r s →
-      Faulty r e → Due bytes (fault (form_number e) (suc n) Sheet)
+      Faulty r e → Due bytes (fault (Form e) (suc n))
   by_numbers : {n : ℕ} {r t : Standing} {s : JobState} (kind : Kind) (ks : List ℕ) (e : Refusal) →
       length bytes ≤ sheet_limit → Taken bytes n r s → LineRead r kind ks t → line_due s kind ks ≡ Some e →
-      Due bytes (fault (refusal_number e) (suc n) Job)
+      Due bytes (fault (Numbers e) (suc n))
 
 pub record OneAnswer (bytes : List ℕ) : Type 0 where
   pub hall : (g h : Hall) → Obeys bytes g → Obeys bytes h → g ≡ h

@@ -5,22 +5,44 @@
 // touches no queue and no table.
 #![tactic(auto)]
 
-ghost use Rattle.std.specs.Prelude.{◌≡◌, ◌<◌, false, List};
+ghost use Rattle.std.specs.Prelude.{◌≡◌, ◌≢◌, false, List, Some};
 ghost use Rattle.queue.specs.Meaning.{Meaning};
 ghost use Rattle.walks.specs.Hall.{Hall};
-ghost use Rattle.model.specs.Refusals.{refusal_number};
 ghost use Rattle.job.specs.View.{state_of};
-ghost use Rattle.sheet.specs.Numbers.{form_number};
 ghost use Rattle.sheet.specs.Readers.{standing};
+ghost use Rattle.sheet.specs.Records.{kind_of, numbers};
 ghost use Rattle.runs.specs.Lists.{Rule, Call, Run};
-ghost use Rattle.intake.specs.Sheets.{layer_letter, Obeys, Due, OneAnswer, Takes, Exactly, Refuses, Continues};
-ghost use Rattle.intake.specs.Steps.{Starts, Steps, Took};
+ghost use Rattle.intake.specs.Faults.{cause_number, layer_of, layer_letter, fault, fault_text};
+ghost use Rattle.intake.specs.Sheets.{Obeys, Due, OneAnswer, Takes, Exactly, Refuses, Continues};
+ghost use Rattle.intake.specs.Steps.{Starts, TakesLine, Took};
+ghost use Rattle.intake.specs.declared.Cause.TheVariants.{Form};
 
 use job::{Job, LayingPermit};
 use model::Refusal;
-use sheet::{Fault, Reader, Record};
+use sheet::{Fault, FormFault, Kind, Reader, Record};
+use std::error::Error;
+use std::fmt;
 
-// Where a sheet's fault was found.
+// What is wrong with a line: its form, or the numbers that it has.
+#[derive(Clone, Copy, PartialEq, Eq, Debug)]
+pub enum Cause {
+    Form(FormFault),
+    Numbers(Refusal),
+}
+
+// The number of the fault of form, 30 to 35, or of the refusal, 1 to 17.
+impl From<Cause> for u32 {
+    ghost from_gives = { λ c n. n ≡ cause_number c };
+
+    fn from(cause: Cause) -> u32 {
+        match cause {
+            Cause::Form(form) => form.into(),
+            Cause::Numbers(refusal) => refusal.into(),
+        }
+    }
+}
+
+// Where a sheet's fault was found: what a fault's line tells of its cause, without which form or refusal it is.
 #[derive(Clone, Copy, PartialEq, Eq, Debug)]
 pub enum Layer {
     // The sheet's form.
@@ -29,45 +51,71 @@ pub enum Layer {
     Job,
 }
 
-impl Layer {
-    // The letter that stands for the layer.
-    pub fn letter(self) -> char
-        ensures value { result ≡ layer_letter self }
-    {
-        match self {
+// Where a fault of the cause is found.
+impl From<Cause> for Layer {
+    ghost from_gives = { λ c l. l ≡ layer_of c };
+
+    fn from(cause: Cause) -> Layer {
+        match cause {
+            Cause::Form(_) => Layer::Sheet,
+            Cause::Numbers(_) => Layer::Job,
+        }
+    }
+}
+
+// The letter that stands for the layer.
+impl From<Layer> for char {
+    ghost from_gives = { λ l c. c ≡ layer_letter l };
+
+    fn from(layer: Layer) -> char {
+        match layer {
             Layer::Sheet => 'S',
             Layer::Job => 'J',
         }
     }
 }
 
-// What is wrong with a sheet: the refusal's number, the line from 1 (0 for a sheet that is too long), and the layer.
+// What is wrong with a sheet, and the line from 1, or 0 for a sheet that is too long. A struct of its own beside the reader's
+// `Fault`, which knows no refusal of a job.
 #[derive(Clone, Copy, PartialEq, Eq, Debug)]
 pub struct SheetFault {
-    pub number: u32,
+    pub cause: Cause,
     pub line: u32,
-    pub layer: Layer,
 }
 
 // A fault of form.
-fn by_form(fault: Fault) -> SheetFault
-    ensures value { result ≡ record { number = form_number fault.form; line = fault.line; layer = Layer.Sheet } }
-{
-    SheetFault {
-        number: fault.form.number(),
-        line: fault.line,
-        layer: Layer::Sheet,
+impl From<Fault> for SheetFault {
+    ghost from_gives = { λ f x. x ≡ fault (Form f.form) f.line };
+
+    fn from(fault: Fault) -> SheetFault {
+        SheetFault {
+            cause: Cause::Form(fault.form),
+            line: fault.line,
+        }
     }
 }
 
-// A refusal of the numbers of a line.
+// `ER`, the number of the cause, the line and the letter of the layer.
+impl fmt::Display for SheetFault {
+    ghost output = { λ f. Some (fault_text f) };
+
+    fn fmt<W: fmt::Write>(&self, f: &mut fmt::Formatter<W>) -> fmt::Result {
+        let number = u32::from(self.cause);
+        let line = self.line;
+        let letter = char::from(Layer::from(self.cause));
+        write!(f, "ER {number} {line} {letter}")
+    }
+}
+
+impl Error for SheetFault {}
+
+// A refusal of the numbers of a line. No `From`, since two values make it.
 fn by_numbers(refusal: Refusal, line: u32) -> SheetFault
-    ensures value { result ≡ record { number = refusal_number refusal; line = line; layer = Layer.Job } }
+    ensures value { result ≡ fault (Cause.Numbers refusal) line }
 {
     SheetFault {
-        number: refusal.number(),
+        cause: Cause::Numbers(refusal),
         line,
-        layer: Layer::Job,
     }
 }
 
@@ -76,53 +124,32 @@ fn take_start(job: &mut Job, reader: &mut Reader<'_>) -> Result<LayingPermit, Sh
     requires { ((standing reader.old).lines ≡ 0) × ((standing reader.old).closed ≡ false) }
     ensures cases { Starts (standing reader.old) result (standing reader.new) (state_of job.new) }
 {
-    let first = match reader.record() {
-        Ok(record) => record,
-        Err(fault) => return Err(by_form(fault)),
+    let Some(Record::Start { points, bound }) = reader.record()? else {
+        unreachable!()
     };
-    let Some(record) = first else {
-        return unreachable();
-    };
-    let Record::Start { points, bound } = record else {
-        return unreachable();
-    };
-    match job.make(points.value() as usize, bound.value()) {
-        Ok(permit) => Ok(permit),
-        Err(refusal) => Err(by_numbers(refusal, reader.line())),
-    }
+    let line = reader.line();
+    job.make(points.value() as usize, bound.value())
+        .map_err(|refusal| by_numbers(refusal, line))
 }
 
-// Takes the next line, and tells whether there was one.
-fn take_line(
-    job: &mut Job,
-    permit: &LayingPermit,
-    reader: &mut Reader<'_>,
-) -> Result<bool, SheetFault>
-    requires { 0 < (standing reader.old).lines }
-    ensures cases { Steps (standing reader.old) (state_of job.old) result (standing reader.new) (state_of job.new) }
+// Takes the numbers of a later line.
+fn take_line(job: &mut Job, permit: &LayingPermit, line: Record<'_>) -> Result<(), Refusal>
+    requires { kind_of line ≢ Kind.Start }
+    ensures cases { TakesLine (state_of job.old) (kind_of line.entry) (numbers line.entry) result (state_of job.new) }
 {
-    let next = match reader.record() {
-        Ok(record) => record,
-        Err(fault) => return Err(by_form(fault)),
-    };
-    let Some(record) = next else {
-        return Ok(false);
-    };
-    match record {
-        Record::Start { .. } => unreachable(),
+    match line {
+        Record::Start { .. } => unreachable!(),
         Record::Leg { from, to, cost } => {
-            match job.lay(
+            job.lay(
                 permit,
                 from.value() as usize,
                 to.value() as usize,
                 cost.value(),
-            ) {
-                Ok(_) => Ok(true),
-                Err(refusal) => Err(by_numbers(refusal, reader.line())),
-            }
+            )?;
         }
-        Record::End { .. } => Ok(true),
+        Record::End { .. } => {}
     }
+    Ok(())
 }
 
 // Takes every line.
@@ -132,19 +159,14 @@ fn take_lines(job: &mut Job, sheet: &[u8]) -> Result<LayingPermit, SheetFault>
     ensures refused { (f : SheetFault) → Due sheet.now f → Refuses f result }
     ensures keeps { (cs : List Call) (m : Meaning) (j : Rule) → Run cs (state_of job.old) m j → Continues cs m j result (state_of job.new) }
 {
-    let mut reader = match Reader::new(sheet) {
-        Ok(reader) => reader,
-        Err(fault) => return Err(by_form(fault)),
-    };
+    let mut reader = Reader::new(sheet)?;
     let permit = take_start(job, &mut reader)?;
-    while take_line(job, &permit, &mut reader)? {}
+    while let Some(next) = reader.record()? {
+        let line = reader.line();
+        take_line(job, &permit, next).map_err(|refusal| by_numbers(refusal, line))?;
+    }
     Ok(permit)
 }
-
-// Bytes are the sheet of one hall, or one fault is due to them. There is nothing to do.
-fn one_answer(sheet: &[u8])
-    ensures { OneAnswer sheet.now }
-{}
 
 // Makes the hall that the sheet describes, or leaves a blank job. Time by the bytes. Refused at the first line that is
 // at fault, by its form or else by its numbers; the sheet of a valid hall is never refused. No other hall and no other
@@ -156,12 +178,9 @@ pub fn take_sheet(job: &mut Job, sheet: &[u8]) -> Result<LayingPermit, SheetFaul
     ensures keeps { (cs : List Call) (m : Meaning) (j : Rule) → Run cs (state_of job.old) m j → Continues cs m j result (state_of job.new) }
     ensures law { OneAnswer sheet.now }
 {
-    one_answer(sheet);
-    match take_lines(job, sheet) {
-        Ok(permit) => Ok(permit),
-        Err(fault) => {
-            job.blank();
-            Err(fault)
-        }
+    let taken = take_lines(job, sheet);
+    if taken.is_err() {
+        job.blank();
     }
+    taken
 }

@@ -3,5 +3,5 @@ use Rattle.maker.proofs.make_table.Goals as goal
 
 pub finish-requires : goal.finish-requires
 finish-requires c =
-    let new = c.in-Ok.ensures c.new-ring.ensures.keeps in
-    record { sound = (new.0, new.1); suits = wheel_suits _ _ c.new-ring.ensures.made new.2; ready = c.requires }
+    let new = c.in_ok-queue.ensures c.new-ring.ensures.keeps in
+    record { sound = new.0; suits = wheel_suits _ _ c.new-ring.ensures.made new.1; ready = c.requires }
