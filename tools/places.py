@@ -28,7 +28,9 @@ def grep(pattern, of=code):
 def functions():
     """Each function with a body: its file, line, name, parameters and body."""
     for f in files:
-        kept = "\n".join(line if (n, line) in set(code(texts[f])) else "" for n, line in enumerate(texts[f].split("\n"), 1))
+        read = set(code(texts[f]))
+        kept = "\n".join(line if (n, line) in read else ";" if line.endswith("};") else ""
+                         for n, line in enumerate(texts[f].split("\n"), 1))
         for m in re.finditer(r"\bfn (\w+)[^(]*\(([^()]*(?:\([^()]*\)[^()]*)*)\)", kept):
             begin = kept.find("{", m.end())
             semi = kept.find(";", m.end())
