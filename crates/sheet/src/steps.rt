@@ -45,6 +45,7 @@ impl From<char> for Class {
 impl Place {
     // Where the reader is after the next byte, `None` standing for the end of the sheet: at `then` past the byte that is
     // due, and at the close for good.
+    // The reader is this match: no other text says what is due where.
     fn turn(self, next: Option<Class>, then: Place) -> Result<Place, FormFault>
         ensures { Turns self next then result }
     {
