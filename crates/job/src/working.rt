@@ -72,10 +72,16 @@ impl Job {
         budget
     }
 
-    // Whether work may be done; if so, the entry that the queue names.
-    fn works<Q: Queue>(&self, queue: &Q, reach: u32, budget: u32) -> Result<Option<Entry>, Refusal>
-        ensures cases { Q.Queue.sound queue.now → Answers (work_due (state_of self.now) (Q.Queue.meaning queue.now) (Q.Queue.named queue.now) reach budget) (λ x. x) result (Unit {0}) (λ named. (named ≡ Q.Queue.named queue.now) × (fits (state_of self.now) (Q.Queue.meaning queue.now) named reach ≡ true)) }
-        ensures made { IfOk result (Drawable (state_of self.now)) }
+    // Whether work may be done; if so, the rule's reach and the entry that the queue names. Neither the rule nor the queue is
+    // asked where the phase or the budget refuses it.
+    fn works<Q: Queue, R: Rule>(
+        &self,
+        queue: &Q,
+        rule: &R,
+        budget: u32,
+    ) -> Result<(u32, Option<Entry>), Refusal>
+        ensures cases { Q.Queue.sound queue.now → Answers (work_due (state_of self.now) (Q.Queue.meaning queue.now) (Q.Queue.named queue.now) (R.Rule.reaches rule.now (state_of self.now).hall.bound) budget) (λ x. x) result (Unit {0}) (λ fit. (fit.0 ≡ R.Rule.reaches rule.now (state_of self.now).hall.bound) × (fit.1 ≡ Q.Queue.named queue.now) × (fits (state_of self.now) (Q.Queue.meaning queue.now) fit.1 fit.0 ≡ true)) }
+        ensures made { IfOk result (λ fit. Drawable (state_of self.now) fit.1) }
         ensures bound { Q.Queue.sound queue.now → OnOk result (Least (Q.Queue.meaning queue.now) (Q.Queue.named queue.now)) }
     {
         if !self.phase.is_resting() {
@@ -84,7 +90,9 @@ impl Job {
         if budget > BUDGET_LIMIT {
             return Err(Refusal::Budget);
         }
-        self.fit(queue, reach)
+        let reach = rule.reach(self.hall.bound);
+        let named = self.fit(queue, reach)?;
+        Ok((reach, named))
     }
 
     // Draws and spreads pairs until the budget is spent, nothing waits, or the queue fits no more. One unit is a
@@ -103,9 +111,8 @@ impl Job {
         ensures law { Trusted (state_of self.old) }
     {
         self.trusted();
-        let reach = rule.reach(self.hall.bound);
-        match self.works(queue, reach, budget) {
-            Ok(named) => {
+        match self.works(queue, rule, budget) {
+            Ok((reach, named)) => {
                 let settled = self.run(named, queue, rule, reach, budget);
                 Ok(Worked { settled, permit })
             }
