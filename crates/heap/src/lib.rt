@@ -56,7 +56,7 @@ pub fn trial(cells: usize) -> Result<(), OutOfRange>
 pub struct Heap<'a> {
     tree: Tree<'a>,
     floor: u32,
-    ghost agrees: { Agrees tree floor },
+    pub ghost agrees: { Agrees tree floor },
 }
 
 impl<'a> Heap<'a> {

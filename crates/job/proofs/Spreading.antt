@@ -32,7 +32,7 @@ tried_short h v =
     (short, omega (arith, h.sized))
 
 -- the first of a chain, and what is left
-unchain : (row : List (Option ℕ)) (head : Option ℕ) (i : ℕ) (is : List ℕ) → head ≡ Some i → Chained row head is →
+pub unchain : (row : List (Option ℕ)) (head : Option ℕ) (i : ℕ) (is : List ℕ) → head ≡ Some i → Chained row head is →
     (rest : List ℕ) × (is ≡ i ∷ rest) × (i < length row) × Chained row (get_or row i None) rest
 unchain row head i [] at h = absurd (let z : ◌≡◌ {A = ℕ} 0 1 = cc in omega arith)
 unchain row head i (x ∷ xs) at h =

@@ -71,7 +71,7 @@ module _ (d : ℕ) (zero : d ≡ 0) where
       grind (arith, nat_tests)
 
   module _ (s : JobState) (ready : Ready s) (q : Meaning) (suits : Suits q) where
-    opening_due : open_due s q (running_reach d s.hall.bound) ≡ None
+    pub opening_due : open_due s q (running_reach d s.hall.bound) ≡ None
     opening_due =
         subst (λ x. open_due x q (running_reach d x.hall.bound) ≡ None) (sym ready.2) (open_clear ready.0 q ready.1 suits)
 
@@ -96,7 +96,7 @@ module _ (d : ℕ) (zero : d ≡ 0) where
       rests = ap (λ x. is_resting x.phase) is
 
       module _ (e : Option Entry) (least : Least o e) where
-        working_due : work_due t o e (running_reach d t.hall.bound) budget_limit ≡ None
+        pub working_due : work_due t o e (running_reach d t.hall.bound) budget_limit ≡ None
         working_due =
             let fit = (law (opens ∷ ready.3) t o (timed d) (kept opened_run) (resting_open t.phase rests)).fit e least in
             grind (arith, nat_tests, rests, fit)

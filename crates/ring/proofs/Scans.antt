@@ -12,24 +12,24 @@ use Rattle.ring.specs.Standing.{heads, rows, slot_of, meant, Blank, Standing, sc
 use Rattle.ring.proofs.Turns.{one_key}
 
 -- all heads None: nothing is found
-scanned_none : (row : List (Option ℕ)) (n k : ℕ) → ((s : ℕ) → get_or row s None ≡ None) → scanned n row k ≡ None
+pub scanned_none : (row : List (Option ℕ)) (n k : ℕ) → ((s : ℕ) → get_or row s None ≡ None) → scanned n row k ≡ None
 scanned_none row zero k h = refl
 scanned_none row (suc n) k h = ap (λ o. or_else o (scanned n row (suc k))) (h (k % length row)) ∙ scanned_none row n (suc k) h
 
 module _ {slots : List Chain} {cells : List Cell} {low count : ℕ} (st : Standing slots cells low count) where
   -- an item that waits needs a slot
-  has_slot : (i k : ℕ) → get_or (keys cells) i None ≡ Some k → 0 < length slots
+  pub has_slot : (i k : ℕ) → get_or (keys cells) i None ≡ Some k → 0 < length slots
   has_slot i k e =
       let l = some_lt (keys cells) i k e in
       let m = length-map cells (λ c. c.key) in
       st.some_slot (omega arith)
 
   -- keys lie in a row of as many as there are slots
-  key_high : (i k : ℕ) → get_or (keys cells) i None ≡ Some k → k < low + length slots
+  pub key_high : (i k : ℕ) → get_or (keys cells) i None ≡ Some k → k < low + length slots
   key_high i k e = let w = st.banded.within i k e in let p = has_slot i k e in omega arith
 
   -- nothing waits
-  idle_least : ((j k : ℕ) → get_or (keys cells) j None ≡ Some k → ⊥) → Least (meant slots cells low) None
+  pub idle_least : ((j k : ℕ) → get_or (keys cells) j None ≡ Some k → ⊥) → Least (meant slots cells low) None
   idle_least n j = none_of (get_or (keys cells) j None) (λ k e. n j k e)
     where
       none_of : (o : Option ℕ) → ((k : ℕ) → o ≡ Some k → ⊥) → o ≡ None
@@ -37,7 +37,7 @@ module _ {slots : List Chain} {cells : List Cell} {low count : ℕ} (st : Standi
       none_of (Some k) h = absurd (h k refl)
 
   -- n slots are left to look at, from key k on
-  scan_least : (n k : ℕ) → low ≤ k → k + n ≡ low + length slots → ((i l : ℕ) → get_or (keys cells) i None ≡ Some l → k ≤ l)
+  pub scan_least : (n k : ℕ) → low ≤ k → k + n ≡ low + length slots → ((i l : ℕ) → get_or (keys cells) i None ≡ Some l → k ≤ l)
       → Least (meant slots cells low) (entry_of (keys cells) (scanned n (heads slots) k))
   scan_least zero k lk e h = idle_least (λ i l q. let a = h i l q in let b = key_high i l q in omega arith)
   scan_least (suc n) k lk e h =

@@ -12,7 +12,7 @@ use Rattle.queue.proofs.Meanings.{held_enter, held_lower, held_take, held_most, 
 use Rattle.chains.specs.declared.cells.Cell.{Cell}
 use Rattle.ring.specs.Standing.{heads, rows, slot_of, meant, Blank, Standing}
 
-all_none : (row : List (Option ℕ)) → ((i : ℕ) → get_or row i None ≡ None) → row ≡ replicate (length row) None
+pub all_none : (row : List (Option ℕ)) → ((i : ℕ) → get_or row i None ≡ None) → row ≡ replicate (length row) None
 all_none row h =
     ext_get_or None row (replicate (length row) None) (sym (length-replicate (length row) None))
     (λ i l. h i ∙ sym (none_in_replicate (length row) i))
@@ -74,11 +74,11 @@ stands_on slots slots' cells cells' low low' count count' st sl cl lists w b c =
   some_cell = λ p. let h = st.some_cell (omega arith) in omega arith;
 }
 
-same_slots : (slots slots' : List Chain) (s : ℕ) (h : Option ℕ) → heads slots' ≡ set (heads slots) s h → length slots' ≡ length slots
+pub same_slots : (slots slots' : List Chain) (s : ℕ) (h : Option ℕ) → heads slots' ≡ set (heads slots) s h → length slots' ≡ length slots
 same_slots slots slots' s h e =
     sym (length-map slots' (λ c. c.first)) ∙ (ap length e ∙ (length-set (heads slots) s h ∙ length-map slots (λ c. c.first)))
 
-same_cells : (cells cells' : List Cell) (i : ℕ) (o : Option ℕ) → keys cells' ≡ set (keys cells) i o → length cells' ≡ length cells
+pub same_cells : (cells cells' : List Cell) (i : ℕ) (o : Option ℕ) → keys cells' ≡ set (keys cells) i o → length cells' ≡ length cells
 same_cells cells cells' i o e =
     sym (length-map cells' (λ c. c.key)) ∙ (ap length e ∙ (length-set (keys cells) i o ∙ length-map cells (λ c. c.key)))
 
@@ -87,20 +87,20 @@ module _ {slots : List Chain} {cells : List Cell} {low count : ℕ} (st : Standi
   place k p = subst (λ n. k % length slots < n) (sym (length-map slots (λ c. c.first))) (mod-lt k p)
 
   -- an item that there is needs a slot
-  slot_for : (i : ℕ) → i < length cells → 0 < length slots
+  pub slot_for : (i : ℕ) → i < length cells → 0 < length slots
   slot_for i l = st.some_slot (omega arith)
 
   -- an item that waits has a cell
-  cell_for : (i k : ℕ) → get_or (keys cells) i None ≡ Some k → i < length cells
+  pub cell_for : (i k : ℕ) → get_or (keys cells) i None ≡ Some k → i < length cells
   cell_for i k e = subst (λ n. i < n) (length-map cells (λ c. c.key)) (some_lt (keys cells) i k e)
 
   -- the count stays small
-  count_few : count ≤ cell_limit
+  pub count_few : count ≤ cell_limit
   count_few =
       let c = st.counted in let h = held_most (keys cells) in let m = length-map cells (λ c. c.key) in let f = st.few_cells in omega arith
 
   -- an item that may be offered has a cell
-  item_for : (i k : ℕ) → Allowed (meant slots cells low) i k → i < length cells
+  pub item_for : (i k : ℕ) → Allowed (meant slots cells low) i k → i < length cells
   item_for i k a = subst (λ n. i < n) (length-map cells (λ c. c.key)) a.item
 
   -- item i enters at key k

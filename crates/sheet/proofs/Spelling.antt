@@ -9,7 +9,7 @@ use Rattle.std.specs.List.{AllByRecursion}
 use Rattle.std.specs.Int.Digits.{number_from_digits, number_from_digits_after}
 use Rattle.std.proofs.lemmas.List.{length_push, take_all}
 use Rattle.std.proofs.lemmas.Str.Parse.{IsNumeralModel, numerals_by_fold, digits_value_short}
-use Rattle.std.proofs.lemmas.Fmt.{decimal-digits_value}
+use Rattle.std.proofs.lemmas.Fmt.{decimal-digits_value, digits_value-decimal, length-decimal-le}
 use Rattle.sheet.specs.Form.{Figure}
 use Rattle.sheet.specs.Numbers.{figure, spelled}
 
@@ -28,6 +28,12 @@ own =
 
 spelled_short : (ds : List ℕ) → length ds ≤ 5 → spelled ds ≡ number_from_digits 10 (map figure ds)
 spelled_short ds h = ap (λ x. number_from_digits 10 (map figure x)) (take_all 5 ds h)
+
+-- a number is what its figures spell
+pub spelled_decimal : (k : ℕ) → k < 100000 → spelled (decimal k) ≡ k
+spelled_decimal k h =
+    let l : length (decimal k) ≤ 5 = length-decimal-le 5 k (omega arith) h (omega arith) in
+    spelled_short (decimal k) l ∙ digits_value-decimal own k (omega arith)
 
 pub record Plain (ds : List ℕ) : Type 0 where
   pub written : ds ≡ decimal (spelled ds)
